@@ -1,0 +1,65 @@
+// The shapes of the answers that the calls hand back. What each of them means stands in specs/.
+
+// A constant taken apart: sign × 2^shift × odd. Zero has sign 0, shift 0 and odd 0.
+pub struct Parts {
+    pub sign: i32,
+    pub shift: u32,
+    pub odd: u32,
+}
+
+// What an operation makes: n, r and its value.
+pub enum Operated {
+    Made { n: i64, r: u32, value: u32 },
+    Invalid,
+}
+
+// A graph's row, its words in their order.
+pub struct Row {
+    pub u: u32,
+    pub v: u32,
+    pub l1: u32,
+    pub l2: u32,
+    pub s: u32,
+    pub r: u32,
+    pub value: u32,
+}
+
+// A prefix of a canonic form that ends at a nonzero digit: the one before it, the gap between their last digits,
+// s = 0 for digit 1 and 1 for digit -1, and its value.
+pub struct Prefix {
+    pub before: u32,
+    pub gap: u32,
+    pub s: u32,
+    pub value: u32,
+}
+
+// A line of the table of refusals, with its place where it has one (specs/Refusals.antt has the numbers).
+pub enum Refusal {
+    Bits,
+    List,
+    OddPart(u32),
+    Buffer,
+    RowCount,
+    Row(u32),
+    Unserved(u32),
+    TooManyRows,
+    Width,
+    Ready(u32),
+    Target,
+    Job(u32),
+}
+
+// What a call that lends its results answers.
+pub enum Answer {
+    Accepted,
+    Refused(Refusal),
+}
+
+// How far a constant is from a list.
+pub enum Far {
+    Zero,
+    One,
+    Two,
+    Beyond,
+    Refused(Refusal),
+}
