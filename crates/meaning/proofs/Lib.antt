@@ -1,3 +1,7 @@
 -- The laws of the definitions.
 pub mod Tests
 pub mod Zeros
+pub mod Operations
+pub mod Apart
+pub mod Inverse
+pub mod Stages

@@ -49,6 +49,10 @@ pub true-of : (b : Bool) → T b → b ≡ true
 true-of true t = refl
 true-of false t = absurd t
 
+pub false-of : (b : Bool) → (T b → ⊥) → b ≡ false
+false-of true n = absurd (n tt)
+false-of false n = refl
+
 pub eq→eqb : (m n : ℕ) → m ≡ n → T (eqb m n)
 eq→eqb m n e = subst (λ (k : ℕ). T (eqb m k)) e (eqb-refl m)
 

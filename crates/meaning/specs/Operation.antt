@@ -34,7 +34,15 @@ pub record Valid (L u v l1 l2 s r c : ℕ) : Type 0 where
   pub sign : s ≤ 1
   pub outcome : Outcome L (size u v l1 l2 s) r c
 
--- the same, as tests that compute
+-- some valid operation on u and v has the value c
+pub record Gives (L u v c : ℕ) : Type 0 where
+  pub l1 : ℕ
+  pub l2 : ℕ
+  pub s : ℕ
+  pub r : ℕ
+  pub valid : Valid L u v l1 l2 s r c
+
+-- validity as tests that compute
 abbrev pub outcomeTests : (L m r c : ℕ) → List Bool
 outcomeTests L m r c = ltb 0 m ∷ eqb r (zeros m) ∷ eqb c (m / 2 ^ r) ∷ ltb c (2 ^ L) ∷ []
 

@@ -1,8 +1,9 @@
 -- Numbers handed back on refusal: the table, the order in which each call looks, and what it writes. Assumes nothing.
+use mathlib.Core.Path.{_≡_}
 use mathlib.Core.Bool.{Bool, true, false, _&&_, not, cond}
 use mathlib.Core.List.{List, [], _∷_, _++_, map}
 use Prim.Native.Nat.{ℕ, zero, suc, _+_, _*_, _%_, _^_}
-use lib.Dec.{leb, ltb, eqb}
+use lib.Dec.{T, leb, ltb, eqb}
 use lib.IntN.{ℤ}
 use lib.ListN.{length}
 use Rattle.meaning.specs.declared.Answer.{Answer}
@@ -12,10 +13,10 @@ use Rattle.meaning.specs.declared.Far.the-variants as far
 use Rattle.meaning.specs.declared.Row.{Row}
 use Rattle.meaning.specs.declared.Refusal.{Refusal}
 use Rattle.meaning.specs.declared.Refusal.the-variants as no
-use Rattle.meaning.specs.Basics.{all}
+use Rattle.meaning.specs.Basics.{all, every}
 use Rattle.meaning.specs.Limits.{limit}
 use Rattle.meaning.specs.Constants.{oddOf}
-use Rattle.meaning.specs.Graph.{rowLength, rows, flat, fits?, served?}
+use Rattle.meaning.specs.Graph.{rowLength, rows, flat, ready, Fits, fits?, Sound, served?}
 use Rattle.meaning.specs.Distance.{distance}
 use Rattle.meaning.specs.Generator.{generated}
 use Rattle.meaning.specs.Products.{targetProducts}
@@ -59,9 +60,19 @@ abbrev pub need : Refusal → List Bool → Answer
 need why tests = cond (all tests) Accepted (Refused why)
 
 -- refused at the first member that fails the test, places from k
-unfoldable pub needEach {ℓ} : {A : Type ℓ} → (ℕ → Refusal) → (A → Bool) → ℕ → List A → Answer
+unfoldable pub needEach : {A : Type 0} → (ℕ → Refusal) → (A → Bool) → ℕ → List A → Answer
 needEach why test k [] = Accepted
 needEach why test k (x ∷ xs) = cond (test x) (needEach why test (suc k) xs) (Refused (why k))
+
+-- the same, as a statement: the first member that fails the test stands at place p, counted from 1
+pub record FirstBad {A : Type 0} (test : A → Bool) (xs : List A) (p : ℕ) : Type 0 where
+  pub before : List A
+  pub bad : A
+  pub after : List A
+  pub split : xs ≡ before ++ (bad ∷ after)
+  pub passed : T (every test before)
+  pub failed : test bad ≡ false
+  pub place : p ≡ length before + 1
 
 abbrev pub mostRows : ℕ
 mostRows = 128
@@ -90,6 +101,16 @@ rowCount n w = need no.RowCount (leb n mostRows ∷ leb (rowLength * n) (length 
 unfoldable pub rowsFrom : ℕ → List ℕ → ℕ → List Row → Answer
 rowsFrom L vals k [] = Accepted
 rowsFrom L vals k (x ∷ xs) = cond (fits? L vals x) (rowsFrom L (vals ++ (x .value ∷ [])) (suc k) xs) (Refused (no.Row k))
+
+-- the same, as a statement: the first row that is not valid is row p
+pub record FirstBadRow (L : ℕ) (xs : List Row) (p : ℕ) : Type 0 where
+  pub before : List Row
+  pub bad : Row
+  pub after : List Row
+  pub split : xs ≡ before ++ (bad ∷ after)
+  pub passed : Sound L (1 ∷ []) before
+  pub failed : ¬ (Fits L (ready before) bad)
+  pub place : p ≡ length before + 1
 
 abbrev pub validRows : ℕ → List Row → Answer
 validRows b xs = rowsFrom (limit b) (1 ∷ []) 1 xs
