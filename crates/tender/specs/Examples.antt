@@ -1,0 +1,61 @@
+-- The proved sums of document 01, P1 to P10, as one table; b = 8 throughout. Assumes nothing.
+use mathlib.Core.Path.{_≡_}
+use mathlib.Core.List.{List, [], _∷_}
+use Prim.Native.Nat.{ℕ}
+use lib.IntN.{ℤ, pos, negℤ}
+use lib.ListN.{getD}
+use Rattle.meaning.specs.declared.Answer.{Answer}
+use Rattle.meaning.specs.declared.Answer.the-variants.{Accepted, Refused}
+use Rattle.meaning.specs.declared.Far.{Far}
+use Rattle.meaning.specs.declared.Far.the-variants.{Zero, One, Two, Beyond}
+use Rattle.meaning.specs.declared.Operated.the-variants.{Made}
+use Rattle.meaning.specs.declared.Parts.{Parts}
+use Rattle.meaning.specs.declared.Refusal.the-variants.{OddPart}
+use Rattle.meaning.specs.declared.Row.{Row}
+use Rattle.meaning.specs.Limits.{limit}
+use Rattle.meaning.specs.Constants.{apart}
+use Rattle.meaning.specs.Operation.{whole, Valid, operated}
+use Rattle.meaning.specs.Generator.{generated}
+use Rattle.meaning.specs.Products.{products, targetProduct}
+use Rattle.meaning.specs.Widths.{rowWidth}
+use Rattle.meaning.specs.Refusals.{number, admitted, distanceTold}
+
+abbrev pub row : (u v l1 l2 s r value : ℕ) → Row
+row u v l1 l2 s r value = record { u = u; v = v; l1 = l1; l2 = l2; s = s; r = r; value = value }
+
+abbrev pub minus : ℕ → ℤ
+minus n = negℤ (pos n)
+
+abbrev pub rows45 : List Row
+rows45 = row 0 0 0 1 0 0 3 ∷ row 1 1 0 4 1 0 45 ∷ []
+
+pub record Examples : Type 0 where
+  -- P1: the list 45. n of row 2, on the value 3 twice, is -45; with x = -7 its product is -315
+  pub p1 : generated 8 (pos 45 ∷ []) ≡ rows45
+  pub p1-n : whole 3 3 0 4 1 ≡ minus 45
+  pub p1-product : products rows45 (minus 7) ≡ minus 7 ∷ minus 21 ∷ minus 315 ∷ []
+  -- P2, P3: the lists 71 and 43
+  pub p2 : generated 8 (pos 71 ∷ []) ≡ row 0 0 0 3 1 0 7 ∷ row 0 1 6 0 0 0 71 ∷ []
+  pub p3 : generated 8 (pos 43 ∷ []) ≡ row 0 0 2 0 1 0 3 ∷ row 1 0 2 0 1 0 11 ∷ row 2 0 2 0 1 0 43 ∷ []
+  -- P4, P5: distances from {1} and from {1, 5}
+  pub p4-two : distanceTold 8 (1 ∷ []) 45 ≡ Two
+  pub p4-beyond : distanceTold 8 (1 ∷ []) 43 ≡ Beyond
+  pub p4-zero : distanceTold 8 (1 ∷ []) 1 ≡ Zero
+  pub p5 : distanceTold 8 (1 ∷ 5 ∷ []) 45 ≡ One
+  -- P6: u = 5, v = 1, no left shifts, s = 0: n = 6, r = 1, value 3; with r = 0 no value is valid
+  pub p6 : operated (limit 8) 5 1 0 0 0 ≡ Made (pos 6) 1 3
+  pub p6-refused : (c : ℕ) → ¬ (Valid (limit 8) 5 1 0 0 0 0 c)
+  -- P7: u = v, no left shifts, s = 1: n = 0, never valid, under any limit
+  pub p7-n : (u : ℕ) → whole u u 0 0 1 ≡ pos 0
+  pub p7 : (L u r c : ℕ) → ¬ (Valid L u u 0 0 1 r c)
+  -- P8: 255 passes, 257 is refusal 3 at the first target, 768 passes with odd part 3
+  pub p8 : admitted 8 (pos 255 ∷ []) ≡ Accepted
+  pub p8-over : admitted 8 (pos 257 ∷ []) ≡ Refused (OddPart 1)
+  pub p8-number : number (OddPart 1) ≡ 3
+  pub p8-even : admitted 8 (pos 768 ∷ []) ≡ Accepted
+  pub p8-parts : apart (pos 768) ≡ record { sign = pos 1; shift = 8; odd = 3 }
+  -- P9: -2147483648 needs no row, and times -2147483648 it is 4611686018427387904
+  pub p9 : generated 8 (minus 2147483648 ∷ []) ≡ []
+  pub p9-product : targetProduct [] (minus 2147483648) (minus 2147483648) ≡ pos 4611686018427387904
+  -- P10: a row of value 3 for inputs of 2 bits is 4 bits wide
+  pub p10 : rowWidth 2 (row 0 0 0 1 0 0 3) ≡ 4

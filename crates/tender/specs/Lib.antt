@@ -1,0 +1,2 @@
+-- What the buyer is promised.
+pub mod Examples
