@@ -5,3 +5,4 @@ pub mod Operations
 pub mod Apart
 pub mod Inverse
 pub mod Stages
+pub mod Walks

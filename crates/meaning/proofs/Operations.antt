@@ -44,8 +44,7 @@ module _ (L u v l1 l2 s r c : ℕ) where
   pub test-of-valid : Valid L u v l1 l2 s r c → T (valid? L u v l1 l2 s r c)
   unfolding valid?
   test-of-valid k =
-      of-all (validTests L u v l1 l2 s r c)
-      (
+      of-all (validTests L u v l1 l2 s r c) (
         le→leb _ _ (k .left),
         (le→leb _ _ (k .right), (eq→eqb _ _ (k .unshifted), (le→leb _ _ (k .sign), (test-of-outcome L (size u v l1 l2 s) r c (k .outcome), tt)))),
       )

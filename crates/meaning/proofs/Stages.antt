@@ -63,6 +63,17 @@ refuses-first stages why r = ap firstOf (r .split) ∙ go (r .before) (r .passed
     go (Accepted ∷ b) p = go b (p .1)
     go (Refused y ∷ b) p = never-both y (sym (p .0))
 
+-- as code meets them: a condition that fails stops there, one that holds passes on, and the last stage is the answer
+pub stops : (why : Refusal) (tests : List Bool) (rest : List Answer) → all tests ≡ false → firstOf (need why tests ∷ rest) ≡ Refused why
+stops why tests rest e = rw e
+
+pub passes : (why : Refusal) (tests : List Bool) (rest : List Answer) → all tests ≡ true → firstOf (need why tests ∷ rest) ≡ firstOf rest
+passes why tests rest e = rw e
+
+pub last : (a : Answer) → firstOf (a ∷ []) ≡ a
+last Accepted = refl
+last (Refused why) = refl
+
 -- ---- one condition
 
 branch : (b : Bool) (a : Answer) (why : Refusal) → cond b a (Refused why) ≡ Accepted → T b × (a ≡ Accepted)
@@ -112,8 +123,7 @@ module _ {A : Type 0} (why : ℕ → Refusal) (test : A → Bool) where
           → (needEach why test (suc k) xs ≡ Refused y → (p : ℕ) × FirstBad test xs (suc p) × (y ≡ why (suc k + p)))
           → (p : ℕ) × FirstBad test (x ∷ xs) (suc p) × (y ≡ why (k + p))
       go true t e rest =
-          let (p, f, q) = rest e in
-          (
+          let (p, f, q) = rest e in (
             suc p,
             record {
               before = x ∷ f .before;
@@ -126,12 +136,11 @@ module _ {A : Type 0} (why : ℕ → Refusal) (test : A → Bool) where
             },
             q ∙ ap why (omega arith),
           )
-      go false t e rest =
-          (
-            0,
-            record { before = []; bad = x; after = xs; split = refl; passed = tt; failed = t; place = refl },
-            sym (refused-same (why k) y e) ∙ ap why (omega arith),
-          )
+      go false t e rest = (
+        0,
+        record { before = []; bad = x; after = xs; split = refl; passed = tt; failed = t; place = refl },
+        sym (refused-same (why k) y e) ∙ ap why (omega arith),
+      )
 
   reaches : (bad : A) (after : List A) → test bad ≡ false → (k : ℕ) (b : List A) → T (every test b)
       → needEach why test k (b ++ (bad ∷ after)) ≡ Refused (why (k + length b))
@@ -195,8 +204,7 @@ rows-refuse L vals k (x ∷ xs) y e = go (fits? L vals x) refl e (λ q. rows-ref
         → (rowsFrom L (vals ++ (x .value ∷ [])) (suc k) xs ≡ Refused y → (p : ℕ) × BadFrom L (vals ++ (x .value ∷ [])) xs p × (y ≡ no.Row (suc k + p)))
         → (p : ℕ) × BadFrom L vals (x ∷ xs) p × (y ≡ no.Row (k + p))
     go true t e rest =
-        let (p, f, q) = rest e in
-        (
+        let (p, f, q) = rest e in (
           suc p,
           record {
             before = x ∷ f .before;
@@ -209,20 +217,19 @@ rows-refuse L vals k (x ∷ xs) y e = go (fits? L vals x) refl e (λ q. rows-ref
           },
           q ∙ ap no.Row (omega arith),
         )
-    go false t e rest =
-        (
-          0,
-          record {
-            before = [];
-            bad = x;
-            after = xs;
-            split = refl;
-            passed = tt;
-            failed = λ g. subst T t (test-of-fits L vals x (rw append-nil at g));
-            place = refl;
-          },
-          sym (refused-same (no.Row k) y e) ∙ ap no.Row (omega arith),
-        )
+    go false t e rest = (
+      0,
+      record {
+        before = [];
+        bad = x;
+        after = xs;
+        split = refl;
+        passed = tt;
+        failed = λ g. subst T t (test-of-fits L vals x (rw append-nil at g));
+        place = refl;
+      },
+      sym (refused-same (no.Row k) y e) ∙ ap no.Row (omega arith),
+    )
 
 row-reaches : (L : ℕ) (bad : Row) (after : List Row) (k : ℕ) (vals : List ℕ) (b : List Row) → Sound L vals b → ¬ (Fits L (vals ++ values b) bad)
     → rowsFrom L vals k (b ++ (bad ∷ after)) ≡ Refused (no.Row (k + length b))
@@ -236,8 +243,7 @@ row-reaches L bad after k vals (x ∷ b) s n =
 -- from the input on, as the table has it
 pub first-bad-row : (L : ℕ) (xs : List Row) (y : Refusal) → rowsFrom L (1 ∷ []) 1 xs ≡ Refused y → (p : ℕ) × FirstBadRow L xs p × (y ≡ no.Row p)
 first-bad-row L xs y e =
-    let (p, f, q) = rows-refuse L (1 ∷ []) 1 xs y e in
-    (
+    let (p, f, q) = rows-refuse L (1 ∷ []) 1 xs y e in (
       1 + p,
       record { before = f .before; bad = f .bad; after = f .after; split = f .split; passed = f .passed; failed = f .failed; place = let g = f .place in omega arith },
       q,

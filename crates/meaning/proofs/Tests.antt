@@ -98,3 +98,9 @@ bool-ext true true f g = refl
 bool-ext true false f g = absurd (f tt)
 bool-ext false true f g = absurd (g tt)
 bool-ext false false f g = refl
+
+-- two tests as a list of tests
+pub pair-all : (a b : Bool) → (a && b) ≡ all (a ∷ b ∷ [])
+pair-all true true = refl
+pair-all true false = refl
+pair-all false b = refl

@@ -1,6 +1,18 @@
-// Magnitudes of signed numbers, the least ones too.
+// Ranges, and magnitudes of signed numbers, the least ones too.
 ghost use mathlib.Core.Path.{_≡_};
+ghost use mathlib.Core.Bool.{_&&_};
+ghost use lib.Dec.{leb};
 ghost use lib.IntN.{natAbs};
+
+// n is in low..high, both ends included.
+pub fn within(n: usize, low: usize, high: usize) -> bool
+    ensures { λ r. ⌜ r ≡ (leb low n && leb n high) ⌝ }
+{
+    if n < low {
+        return false;
+    }
+    n <= high
+}
 
 // |t|, which 32 unsigned bits hold at the least i32 too: the negation is done in 64 bits.
 pub fn magnitude(t: i32) -> u32
