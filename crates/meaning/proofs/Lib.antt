@@ -6,3 +6,4 @@ pub mod Apart
 pub mod Inverse
 pub mod Stages
 pub mod Walks
+pub mod Widths

@@ -36,8 +36,8 @@ module _ (L u v l1 l2 s r c : ℕ) where
       record {
         left = leb→le _ _ (p .0);
         right = leb→le _ _ (p .1 .0);
-        unshifted = eqb→eq _ _ (p .1 .1 .0);
-        sign = leb→le _ _ (p .1 .1 .1 .0);
+        unshifted = eqb→eq _ _ (p .1 .1 .1 .0);
+        sign = leb→le _ _ (p .1 .1 .0);
         outcome = outcome-of-test L (size u v l1 l2 s) r c (p .1 .1 .1 .1 .0);
       }
 
@@ -46,7 +46,7 @@ module _ (L u v l1 l2 s r c : ℕ) where
   test-of-valid k =
       of-all (validTests L u v l1 l2 s r c) (
         le→leb _ _ (k .left),
-        (le→leb _ _ (k .right), (eq→eqb _ _ (k .unshifted), (le→leb _ _ (k .sign), (test-of-outcome L (size u v l1 l2 s) r c (k .outcome), tt)))),
+        (le→leb _ _ (k .right), (le→leb _ _ (k .sign), (eq→eqb _ _ (k .unshifted), (test-of-outcome L (size u v l1 l2 s) r c (k .outcome), tt)))),
       )
 
 -- ---- |n|

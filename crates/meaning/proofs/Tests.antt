@@ -1,7 +1,7 @@
 -- What the tests over lists and ranges mean. Assumes nothing.
 use mathlib.Core.Path.{_≡_, refl, subst, sym}
 use mathlib.Core.Bool.{Bool, true, false, _&&_, _||_, not, cond}
-use mathlib.Core.List.{List, [], _∷_, List·Memᴰ, List·Memᴰ·head, List·Memᴰ·tail, List·Memᴰ·not-nil, List·Memᴰ·cases-cons}
+use mathlib.Core.List.{List, [], _∷_, _++_, List·Memᴰ, List·Memᴰ·head, List·Memᴰ·tail, List·Memᴰ·not-nil, List·Memᴰ·cases-cons}
 use native.Mathlib.Decide.{ℕ-discrete}
 use mathlib.Core.Logic.{_⊎_, inl, inr, ⊎-elim}
 use Prim.Native.Nat.{ℕ, zero, suc, _+_, _≤_, _<_}
@@ -104,3 +104,8 @@ pub pair-all : (a b : Bool) → (a && b) ≡ all (a ∷ b ∷ [])
 pair-all true true = refl
 pair-all true false = refl
 pair-all false b = refl
+
+pub all-append : (xs ys : List Bool) → all (xs ++ ys) ≡ (all xs && all ys)
+all-append [] ys = refl
+all-append (true ∷ xs) ys = all-append xs ys
+all-append (false ∷ xs) ys = refl

@@ -1,6 +1,6 @@
 -- The operation, of u and v with left shifts l1 and l2, a sign s and a right shift r, under the limit L. Assumes nothing.
 use mathlib.Core.Path.{_≡_}
-use mathlib.Core.Bool.{Bool, cond}
+use mathlib.Core.Bool.{Bool, _&&_, cond}
 use mathlib.Core.List.{List, [], _∷_}
 use Prim.Native.Nat.{ℕ, zero, suc, _+_, _*_, _/_, _^_, _≤_, _<_, min}
 use lib.Dec.{leb, ltb, eqb}
@@ -8,6 +8,7 @@ use lib.IntN.{ℤ, pos, _+ℤ_, _-ℤ_}
 use Rattle.meaning.specs.declared.Operated.{Operated}
 use Rattle.meaning.specs.declared.Operated.the-variants.{Made, Invalid}
 use Rattle.meaning.specs.Basics.{gap, all, zeros}
+use Rattle.meaning.specs.Limits.{limit}
 
 -- n = 2^l1 × u + (-1)^s × 2^l2 × v
 abbrev pub whole : (u v l1 l2 s : ℕ) → ℤ
@@ -50,7 +51,7 @@ unfoldable pub outcome? : (L m r c : ℕ) → Bool
 outcome? L m r c = all (outcomeTests L m r c)
 
 abbrev pub validTests : (L u v l1 l2 s r c : ℕ) → List Bool
-validTests L u v l1 l2 s r c = leb l1 L ∷ leb l2 L ∷ eqb (min l1 l2) 0 ∷ leb s 1 ∷ outcome? L (size u v l1 l2 s) r c ∷ []
+validTests L u v l1 l2 s r c = leb l1 L ∷ leb l2 L ∷ leb s 1 ∷ eqb (min l1 l2) 0 ∷ outcome? L (size u v l1 l2 s) r c ∷ []
 
 unfoldable pub valid? : (L u v l1 l2 s r c : ℕ) → Bool
 valid? L u v l1 l2 s r c = all (validTests L u v l1 l2 s r c)
@@ -62,3 +63,7 @@ operated L u v l1 l2 s =
     let r : ℕ = zeros m in
     let c : ℕ = m / 2 ^ r in
     cond (valid? L u v l1 l2 s r c) (Made (whole u v l1 l2 s) r c) Invalid
+
+-- the same under the bit limit b, which is 2 to 16
+unfoldable pub operatedUnder : (b u v l1 l2 s : ℕ) → Operated
+operatedUnder b u v l1 l2 s = cond (leb 2 b && leb b 16) (operated (limit b) u v l1 l2 s) Invalid
