@@ -7,3 +7,4 @@ pub mod Inverse
 pub mod Stages
 pub mod Walks
 pub mod Widths
+pub mod Graphs

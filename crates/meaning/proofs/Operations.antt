@@ -14,7 +14,7 @@ use Rattle.meaning.specs.declared.Operated.{Operated}
 use Rattle.meaning.specs.declared.Operated.the-variants.{Made, Invalid}
 use Rattle.meaning.specs.Basics.{gap, all, zeros}
 use Rattle.meaning.specs.Operation.{whole, size, Outcome, Valid, outcomeTests, outcome?, validTests, valid?, operated}
-use Rattle.meaning.proofs.Tests.{all-of, of-all, eq→eqb, true-of, false-of}
+use Rattle.meaning.proofs.Tests.{all-of, of-all, eq→eqb, true-of, false-of, T-of}
 use Rattle.meaning.proofs.Zeros.{zeros-whole, zeros-left, zeros-unique}
 
 -- ---- the test and the statement
@@ -118,3 +118,14 @@ module _ (L u v l1 l2 s : ℕ) where
   pub operated-invalid : ((r c : ℕ) → Valid L u v l1 l2 s r c → ⊥) → operated L u v l1 l2 s ≡ Invalid
   unfolding operated
   operated-invalid h = ap made (false-of is (λ t. h (zeros m) (m / 2 ^ zeros m) (valid-of-test L u v l1 l2 s _ _ t)))
+
+  pub operated-valid : (n : ℤ) (r c : ℕ) → operated L u v l1 l2 s ≡ Made n r c → Valid L u v l1 l2 s r c
+  unfolding operated
+  operated-valid n r c e = go is refl e
+    where
+      go : (t : Bool) → is ≡ t → made t ≡ Made n r c → Valid L u v l1 l2 s r c
+      go true q f =
+          let a : zeros m ≡ r = cc in
+          let b : m / 2 ^ zeros m ≡ c = cc in
+          subst₂ (Valid L u v l1 l2 s) a b (valid-of-test L u v l1 l2 s (zeros m) (m / 2 ^ zeros m) (T-of q))
+      go false q f = absurd (let z : _≡_ {A = ℕ} 0 1 = cc in omega arith)

@@ -1,12 +1,13 @@
 -- A graph: rows of words in a slice, and when they are valid. Assumes nothing.
 use mathlib.Core.Bool.{Bool, _&&_, _||_}
 use mathlib.Core.List.{List, [], _∷_, _++_, map}
-use Prim.Native.Nat.{ℕ, zero, suc, _+_, _<_}
+use Prim.Native.Nat.{ℕ, zero, suc, _+_, _*_, _<_}
 use lib.Dec.{ltb, leb}
 use lib.IntN.{ℤ}
 use lib.ListN.{length, getD, drop}
 use Rattle.meaning.specs.declared.Row.{Row}
 use Rattle.meaning.specs.Basics.{has, indexFrom}
+use Rattle.meaning.specs.Limits.{limit}
 use Rattle.meaning.specs.Constants.{oddOf}
 use Rattle.meaning.specs.Operation.{Valid, valid?}
 
@@ -60,6 +61,11 @@ fits? L vals x =
     ltb (x .u) (length vals)
     && (ltb (x .v) (length vals)
     && valid? L (getD vals (x .u) 0) (getD vals (x .v) 0) (x .l1) (x .l2) (x .s) (x .r) (x .value))
+
+-- the row after i rows of a slice is within it and valid over those rows' values, under the bit limit b
+unfoldable pub rowFits : ℕ → List ℕ → ℕ → Bool
+rowFits b w i =
+    (leb 2 b && leb b 16) && (leb (rowLength * (i + 1)) (length w) && fits? (limit b) (ready (rows i w)) (rowAt w (rowLength * i)))
 
 -- each row is valid over the values before it
 unfoldable pub Sound : ℕ → List ℕ → List Row → Type 0

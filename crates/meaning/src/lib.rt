@@ -13,6 +13,9 @@ pub enum Operated {
     Invalid,
 }
 
+// How many words a row of a graph has.
+pub const ROW_LENGTH: usize = 7;
+
 // A graph's row, its words in their order.
 pub struct Row {
     pub u: u32,

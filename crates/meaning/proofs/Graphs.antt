@@ -1,0 +1,65 @@
+-- The rows of a slice of words: by index, one more at the end, and back from rows. Assumes nothing.
+use mathlib.Core.Path.{_≡_, refl, sym, ap, _∙_}
+use mathlib.Core.List.{List, [], _∷_, _++_}
+use Prim.Native.Nat.{ℕ, zero, suc, _+_, _*_, _<_}
+use native.Mathlib.Omega.{arith}
+use lib.ListN.{length, getD, drop}
+use lib.Seq.{getD-drop}
+use Rattle.meaning.specs.declared.Row.{Row}
+use Rattle.meaning.specs.Graph.{rowLength, words, rowAt, rows, flat, values, ready}
+
+pub length-rows : (n : ℕ) (w : List ℕ) → length (rows n w) ≡ n
+unfolding rows
+length-rows zero w = refl
+length-rows (suc n) w = ap suc (length-rows n (drop rowLength w))
+
+pub length-values : (xs : List Row) → length (values xs) ≡ length xs
+length-values [] = refl
+length-values (x ∷ xs) = ap suc (length-values xs)
+
+pub length-ready : (n : ℕ) (w : List ℕ) → length (ready (rows n w)) ≡ suc n
+length-ready n w = ap suc (length-values (rows n w) ∙ length-rows n w)
+
+-- a word of a later row
+at-drop : (w : List ℕ) (k i : ℕ) → getD (drop rowLength w) (k + i) 0 ≡ getD w (rowLength + k + i) 0
+at-drop w k i = getD-drop rowLength w (k + i) 0 ∙ ap (λ j. getD w j 0) (omega arith)
+
+row-drop : (w : List ℕ) (k : ℕ) → rowAt (drop rowLength w) k ≡ rowAt w (rowLength + k)
+row-drop w k =
+    λ i. record {
+      u = getD-drop rowLength w k 0 i;
+      v = at-drop w k 1 i;
+      l1 = at-drop w k 2 i;
+      l2 = at-drop w k 3 i;
+      s = at-drop w k 4 i;
+      r = at-drop w k 5 i;
+      value = at-drop w k 6 i;
+    }
+
+-- one row more
+pub rows-more : (n : ℕ) (w : List ℕ) → rows (suc n) w ≡ rows n w ++ (rowAt w (rowLength * n) ∷ [])
+unfolding rows
+rows-more zero w = refl
+rows-more (suc n) w =
+    ap (λ l. rowAt w 0 ∷ l)
+    (rows-more n (drop rowLength w)
+    ∙ ap (λ x. rows n (drop rowLength w) ++ (x ∷ [])) (row-drop w (rowLength * n) ∙ ap (rowAt w) (omega arith)))
+
+-- the value of the row after k rows is that row's last word
+pub value-is : (n : ℕ) (w : List ℕ) (k : ℕ) → k < n → getD (values (rows n w)) k 0 ≡ getD w (rowLength * k + 6) 0
+unfolding rows
+value-is zero w k h = absurd (omega arith)
+value-is (suc n) w zero h = refl
+value-is (suc n) w (suc k) h =
+    value-is n (drop rowLength w) k (omega arith) ∙ at-drop w (rowLength * k) 6 ∙ ap (λ j. getD w j 0) (omega arith)
+
+-- rows written and read again
+pub rows-flat : (xs : List Row) → rows (length xs) (flat xs) ≡ xs
+unfolding rows flat
+rows-flat [] = refl
+rows-flat (x ∷ xs) = ap (λ l. x ∷ l) (rows-flat xs)
+
+pub length-flat : (xs : List Row) → length (flat xs) ≡ rowLength * length xs
+unfolding flat
+length-flat [] = refl
+length-flat (x ∷ xs) = omega (arith, length-flat xs)
