@@ -1,3 +1,4 @@
 -- The laws of the definitions.
 pub mod Tests
 pub mod Zeros
+pub mod Canonic
