@@ -1,14 +1,13 @@
 -- The canonic form: it denotes its number, no two adjacent digits are nonzero, the highest is not zero, and no other form says that. Assumes nothing.
 use mathlib.Core.Path.{_≡_, refl, sym, ap, _∙_, subst, subst⁻¹}
-use mathlib.Core.Bool.{Bool, true, false, cond}
 use mathlib.Core.List.{List, [], _∷_}
-use Prim.Native.Nat.{ℕ, zero, suc, _+_, _-_, _*_, _/_, _%_, _^_, _≤_, _<_}
-use native.Mathlib.Nat.{mod-lt, pow-succ'}
+use Prim.Native.Nat.{ℕ, zero, suc, _+_, _-_, _*_, _/_, _%_, _≤_, _<_}
+use native.Mathlib.Nat.{mod-lt}
 use native.Mathlib.Omega.{arith}
 use borrow.Author.Tests.{eq-eqb, ne-eqb, le-ltb, lt-ltb}
-use lib.Dec.{lit<, eqb, ltb}
+use lib.Dec.{lit<}
 use lib.IntN.{ℤ, pos, negsuc, _+ℤ_, _*ℤ_, +ℤ-idl, negℤ}
-use Rattle.meaning.specs.Digits.{Digit, minus, none, plus, worth, denoted, isNonzero, nonzeros, Sparse, Ended, Canonic, lowest, above, digitsIn, canonic}
+use Rattle.meaning.specs.Digits.{Digit, minus, none, plus, worth, denoted, isNonzero, Sparse, Ended, Canonic, lowest, above, digitsIn, canonic}
 
 -- n is a digit and twice a, where a is even unless the digit is 0
 pub data Split (n a : ℕ) : Digit → Type 0 where

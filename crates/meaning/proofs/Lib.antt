@@ -2,3 +2,6 @@
 pub mod Tests
 pub mod Zeros
 pub mod Canonic
+pub mod Count
+pub mod Prefixes
+pub mod Chain
