@@ -70,6 +70,10 @@ split-less (split-none p) = omega arith
 split-less (split-plus p w) = omega arith
 split-less (split-minus p w) = omega arith
 
+pub above-less : (n : ℕ) → 0 < n → above n < n
+above-less zero h = absurd (omega arith)
+above-less (suc n) h = let b = split-less (split-of (suc n)) in omega arith
+
 -- the digit is nonzero where n is odd
 pub split-parity : {n a : ℕ} {d : Digit} → Split n a d → isNonzero d ≡ n % 2
 split-parity (split-none p) = omega arith

@@ -1,0 +1,1 @@
+-- The laws that the code's proofs share.
