@@ -1,5 +1,5 @@
 -- The prefixes of a number in an array of sixteen, and the last of them. Assumes nothing.
-use mathlib.Core.Bool.{Bool, cond}
+use mathlib.Core.Bool.{cond}
 use mathlib.Core.List.{List, _++_}
 use Prim.Native.Nat.{ℕ, _+_, _-_, _/_, _%_, _^_}
 use lib.Dec.{eqb}
@@ -25,12 +25,12 @@ abbrev pub near : ℕ → ℕ
 near n = cond (eqb (n % 4) 3) (n + 1) (n - 1)
 
 -- 1 where the lowest digit of an odd number is -1
-abbrev pub signOf : ℕ → ℕ
-signOf n = cond (eqb (n % 4) 3) 1 0
+abbrev pub endSign : ℕ → ℕ
+endSign n = cond (eqb (n % 4) 3) 1 0
 
 unfoldable pub oddPart : ℕ → ℕ
 oddPart n = n / 2 ^ zeros n
 
 -- the last prefix of an odd number above 1
 unfoldable pub lastPrefix : ℕ → Prefix
-lastPrefix n = record { before = oddPart (near n); gap = zeros (near n); s = signOf n; value = n }
+lastPrefix n = record { before = oddPart (near n); gap = zeros (near n); s = endSign n; value = n }

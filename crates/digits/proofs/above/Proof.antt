@@ -4,8 +4,6 @@ use borrow.Author.Needs.{needs}
 use borrow.Author.Tests.{eq-eqb, ne-eqb}
 use Rattle.digits.proofs.above.Statement.{statement}
 use Rattle.digits.proofs.above.Tie as tie
-use Rattle.digits.proofs.above.Reads as reads
-use Rattle.digits.proofs.above.Lts as lts
 
 add-result : tie.Need-add-result
 add-result c = search needs

@@ -9,9 +9,6 @@ use Rattle.meaning.proofs.Canonic.{above-less}
 use Rattle.meaning.proofs.Count.{nonzeros-zero, nonzeros-step, few-seventeen}
 use Rattle.digits.proofs.nonzero_digits.Statement.{statement}
 use Rattle.digits.proofs.nonzero_digits.Tie as tie
-use Rattle.digits.proofs.nonzero_digits.Reads as reads
-use Rattle.digits.proofs.nonzero_digits.Lts as lts
-use Rattle.digits.proofs.above.Reads as above-reads
 
 abbrev Inv-loop : tie.InvT-loop
 Inv-loop n count₀ left₀ count left = (count + nonzeros (canonic left) ≡ nonzeros (canonic n)) × (count ≤ 17)
