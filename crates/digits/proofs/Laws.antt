@@ -7,8 +7,8 @@ use native.Mathlib.Nat.{zero-div, div-le-self}
 use native.Mathlib.Omega.{arith}
 use borrow.Author.Tests.{eqb-true, eqb-false}
 use lib.Dec.{eqb}
-use lib.ListN.{length, drop, set, replicate, length-append, length-set}
-use lib.Seq.{lt-length-set, drop-cons, drop-set-lt, getD-set-same, append-snoc}
+use lib.ListN.{length, take, drop, getD, set, replicate, length-append, length-set, length-replicate, List·getD-append}
+use lib.Seq.{lt-length-set, drop-cons, drop-set-lt, getD-set-same, append-snoc, take-append-seam}
 use Rattle.meaning.specs.declared.Prefix.{Prefix}
 use Rattle.meaning.specs.Basics.{zeros}
 use Rattle.meaning.specs.Digits.{prefixes}
@@ -66,6 +66,9 @@ last-odd : (n : ℕ) → 1 < n → lastPrefix n .before % 2 ≡ 1
 unfolding lastPrefix oddPart
 last-odd n h = zeros-left (near n) (near-positive n h)
 
+pub held-count : (n : ℕ) → n < 2 ^ 32 → length (prefixes n) ≤ 16
+held-count n h = omega (arith, length-prefixes n, few-seventeen n h)
+
 -- ---- the array, filled from the place below `at` down: what it holds from there on stands above the prefixes of what is left
 
 pub record Filling (n left at : ℕ) (list : List Prefix) : Type 0 where
@@ -100,7 +103,7 @@ fill-start n left at h e k =
     let same : prefixes n ≡ prefixes left = odd-same n ∙ ap prefixes (sym e) in
     record {
       size = refl;
-      few = omega (arith, length-prefixes n, few-seventeen n h);
+      few = omega (arith, held-count n h);
       places = k ∙ ap length same;
       odd = λ p. ap (λ x. x % 2) e ∙ start-odd n (omega arith);
       filled =
@@ -139,3 +142,17 @@ fill-end n left at count list f z k =
     let none : prefixes left ≡ [] = no-length (prefixes left) (omega arith) in
     let all : held (prefixes n) ≡ list = f .filled ∙ ap (λ x. x ++ drop at list) none ∙ ap (λ i. drop i list) z in
     rw (k, all)
+
+-- ---- what a caller reads of the array
+
+pub held-length : (n : ℕ) → n < 2 ^ 32 → length (held (prefixes n)) ≡ 16
+unfolding held
+held-length n h = simp (length-append, length-replicate) (omega (arith, held-count n h))
+
+pub held-front : (n : ℕ) → take (length (prefixes n)) (held (prefixes n)) ≡ prefixes n
+unfolding held
+held-front n = take-append-seam (prefixes n) (replicate (16 - length (prefixes n)) nothing)
+
+pub held-at : (n i : ℕ) (d : Prefix) → i < length (prefixes n) → getD (held (prefixes n)) i d ≡ getD (prefixes n) i d
+unfolding held
+held-at n i d h = List·getD-append (prefixes n) (replicate (16 - length (prefixes n)) nothing) d i h
