@@ -1,0 +1,18 @@
+-- `digits::above` meets its contract: its test is the definition's. Assumes nothing.
+use Prim.Native.Nat.{_%_}
+use borrow.Author.Needs.{needs}
+use borrow.Author.Tests.{eq-eqb, ne-eqb}
+use Rattle.digits.proofs.above.Statement.{statement}
+use Rattle.digits.proofs.above.Tie as tie
+
+add-result : tie.Need-add-result
+add-result c = search needs
+
+returns : tie.Need-returns
+returns c = rw (eq-eqb (c .before .args .n % 4) 3 (search needs))
+
+returns-2 : tie.Need-returns-2
+returns-2 c = rw (ne-eqb (c .before .args .n % 4) 3 (search needs))
+
+pub above-spec : {M : Type 1} → statement M
+above-spec = tie.close (tie.spec add-result returns returns-2)

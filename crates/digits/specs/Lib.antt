@@ -1,0 +1,2 @@
+-- What the code of the canonic form hands back.
+pub mod Held
