@@ -53,6 +53,15 @@ placeOf (no.Ready p) = p
 placeOf no.Target = 0
 placeOf (no.Job p) = p
 
+-- of an answer: 0 and 0 where nothing is refused
+abbrev pub toldNumber : Answer → ℕ
+toldNumber Accepted = 0
+toldNumber (Refused why) = number why
+
+abbrev pub toldPlace : Answer → ℕ
+toldPlace Accepted = 0
+toldPlace (Refused why) = placeOf why
+
 -- ---- the situations
 
 -- refused unless every test passes

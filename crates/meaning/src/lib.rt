@@ -1,4 +1,6 @@
 // The shapes of the answers that the calls hand back. What each of them means stands in specs/.
+ghost use mathlib.Core.Path.{_≡_};
+ghost use Rattle.meaning.specs.Refusals.{number, placeOf, toldNumber, toldPlace};
 
 // A constant taken apart: sign × 2^shift × odd. Zero has sign 0, shift 0 and odd 0.
 pub struct Parts {
@@ -52,10 +54,71 @@ pub enum Refusal {
     Job(u32),
 }
 
+impl Refusal {
+    pub fn number(self) -> u32
+        ensures { λ r. ⌜ r ≡ number self ⌝ }
+    {
+        match self {
+            Refusal::Bits => 1,
+            Refusal::List => 2,
+            Refusal::OddPart(_) => 3,
+            Refusal::Buffer => 4,
+            Refusal::RowCount => 5,
+            Refusal::Row(_) => 6,
+            Refusal::Unserved(_) => 7,
+            Refusal::TooManyRows => 8,
+            Refusal::Width => 9,
+            Refusal::Ready(_) => 10,
+            Refusal::Target => 11,
+            Refusal::Job(_) => 12,
+        }
+    }
+
+    pub fn place(self) -> u32
+        ensures { λ r. ⌜ r ≡ placeOf self ⌝ }
+    {
+        match self {
+            Refusal::Bits => 0,
+            Refusal::List => 0,
+            Refusal::OddPart(p) => p,
+            Refusal::Buffer => 0,
+            Refusal::RowCount => 0,
+            Refusal::Row(p) => p,
+            Refusal::Unserved(p) => p,
+            Refusal::TooManyRows => 0,
+            Refusal::Width => 0,
+            Refusal::Ready(p) => p,
+            Refusal::Target => 0,
+            Refusal::Job(p) => p,
+        }
+    }
+}
+
 // What a call that lends its results answers.
 pub enum Answer {
     Accepted,
     Refused(Refusal),
+}
+
+impl Answer {
+    // The refusal's number, 0 where there is none.
+    pub fn number(self) -> u32
+        ensures { λ r. ⌜ r ≡ toldNumber self ⌝ }
+    {
+        match self {
+            Answer::Accepted => 0,
+            Answer::Refused(why) => why.number(),
+        }
+    }
+
+    pub fn place(self) -> u32
+        ensures { λ r. ⌜ r ≡ toldPlace self ⌝ }
+    {
+        match self {
+            Answer::Accepted => 0,
+            Answer::Refused(why) => why.place(),
+        }
+    }
 }
 
 // How far a constant is from a list.

@@ -1,0 +1,78 @@
+// Answers cases for the library's calls, so that another program's answers can be held to them.
+// A case is two little-endian 32-bit words, its kind and the number n of its words, and then the n words.
+// Each answer is a line of decimal numbers.
+mod input;
+mod leaves;
+mod print;
+
+use libc::STDIN_FILENO;
+
+// The calls on single numbers and one row. A kind that is not known answers an empty line.
+fn leaf(kind: u32, words: &[u32]) {
+    if kind == 1 {
+        leaves::apart(words);
+    }
+    if kind == 3 {
+        leaves::digits(words);
+    }
+    if kind == 4 {
+        leaves::operate(words);
+    }
+    if kind == 5 {
+        leaves::row(words);
+    }
+    if kind == 6 {
+        leaves::bits(words);
+    }
+}
+
+fn answer(kind: u32, words: &[u32], targets: &mut [i32]) {
+    if kind == 2 {
+        leaves::admit(words, targets);
+        return;
+    }
+    leaf(kind, words);
+}
+
+// Reads a whole part of the input, and says whether it was there.
+fn read(bytes: &mut [u8], n: usize) -> bool {
+    if bytes.len() < n {
+        return false;
+    }
+    let got = io::read_full(STDIN_FILENO, &mut bytes[..n]);
+    n <= got
+}
+
+// Answers one case, and says whether there was one.
+fn one(bytes: &mut [u8], words: &mut [u32], targets: &mut [i32]) -> bool {
+    if !read(bytes, 8) {
+        return false;
+    }
+    let kind = input::word(bytes, 0);
+    let n = input::word(bytes, 1) as usize;
+    if words.len() < n {
+        return false;
+    }
+    if !read(bytes, n * 4) {
+        return false;
+    }
+    input::words(bytes, words);
+    answer(kind, &words[..n], targets);
+    print::end();
+    true
+}
+
+// A proved loop has to end, so it counts its turns down from a number that no run uses up.
+fn run(bytes: &mut [u8], words: &mut [u32], targets: &mut [i32]) {
+    let mut turns = u64::MAX;
+    while turns > 0 && one(bytes, words, targets) {
+        turns -= 1;
+    }
+}
+
+fn main() {
+    let mut bytes = [0u8; 4800];
+    let mut words = [0u32; 1200];
+    let mut targets = [0i32; 1200];
+    run(&mut bytes, &mut words, &mut targets);
+}
