@@ -1,12 +1,14 @@
--- The rows of a slice of words: by index, one more at the end, and back from rows. Assumes nothing.
-use mathlib.Core.Path.{_≡_, refl, sym, ap, _∙_}
-use mathlib.Core.List.{List, [], _∷_, _++_}
-use Prim.Native.Nat.{ℕ, zero, suc, _+_, _*_, _<_}
+-- The rows of a slice of words: by index, one more at the end, and back from rows; the values of valid rows. Assumes nothing.
+use mathlib.Core.Path.{_≡_, refl, sym, ap, _∙_, subst⁻¹}
+use mathlib.Core.List.{List, [], _∷_, _++_, List·Memᴰ, List·Memᴰ·not-nil, List·Memᴰ·cases-cons}
+use mathlib.Core.Logic.{⊎-elim}
+use Prim.Native.Nat.{ℕ, zero, suc, _+_, _*_, _%_, _^_, _<_}
 use native.Mathlib.Omega.{arith}
 use lib.ListN.{length, getD, drop}
 use lib.Seq.{getD-drop}
 use Rattle.meaning.specs.declared.Row.{Row}
-use Rattle.meaning.specs.Graph.{rowLength, words, rowAt, rows, flat, values, ready}
+use Rattle.meaning.specs.Graph.{rowLength, words, rowAt, rows, flat, values, ready, Sound}
+use Rattle.meaning.proofs.Operations.{exact-of}
 
 pub length-rows : (n : ℕ) (w : List ℕ) → length (rows n w) ≡ n
 unfolding rows
@@ -63,3 +65,13 @@ pub length-flat : (xs : List Row) → length (flat xs) ≡ rowLength * length xs
 unfolding flat
 length-flat [] = refl
 length-flat (x ∷ xs) = omega (arith, length-flat xs)
+
+-- every value of a valid row is odd and below 2 ^ L, so that every operand of the next is
+pub sound-odd : (L : ℕ) (vals : List ℕ) (xs : List Row) → Sound L vals xs → (x : Row) → List·Memᴰ x xs → (x .value % 2 ≡ 1) × (x .value < 2 ^ L)
+unfolding Sound
+sound-odd L vals [] s x i = absurd (List·Memᴰ·not-nil i)
+sound-odd L vals (y ∷ ys) s x i =
+    ⊎-elim
+    (λ e. subst⁻¹ (λ z. (z .value % 2 ≡ 1) × (z .value < 2 ^ L)) e (exact-of L _ _ _ (s .0 .operation .outcome) .odd, s .0 .operation .outcome .below))
+    (λ j. sound-odd L (vals ++ (y .value ∷ [])) ys (s .1) x j)
+    (List·Memᴰ·cases-cons i)

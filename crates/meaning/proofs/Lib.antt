@@ -11,4 +11,5 @@ pub mod Prefixes
 pub mod Chain
 pub mod Stages
 pub mod Walks
+pub mod Checked
 pub mod Widths

@@ -12,11 +12,24 @@ use Rattle.meaning.specs.declared.Answer.the-variants.{Accepted, Refused
 use Rattle.meaning.specs.declared.Refusal.{Refusal}
 use Rattle.meaning.specs.declared.Refusal.the-variants as no
 use Rattle.meaning.specs.declared.Row.{Row}
-use Rattle.meaning.specs.Basics.{all, every}
+use Rattle.meaning.specs.Basics.{all, every, over}
 use Rattle.meaning.specs.Graph.{Fits, fits?, Sound, ready, values}
-use Rattle.meaning.specs.Refusals.{need, needEach, FirstBad, rowsFrom, FirstBadRow, firstOf}
+use Rattle.meaning.specs.Refusals.{need, needEach, FirstBad, rowsFrom, FirstBadRow, firstOf, Done}
 use Rattle.meaning.proofs.Tests.{both-of, of-both, true-of, false-of, T-of, All, all-of, of-all}
 use Rattle.meaning.proofs.Operations.{valid-of-test, test-of-valid}
+
+-- a contract that says what an answer equals allows one answer
+pub one-answer : {A : Type 0} (d x y : A) → x ≡ d → y ≡ d → x ≡ y
+one-answer d x y a b = a ∙ sym b
+
+pub one-done : {A : Type 0} (a : Answer) (w before : List A) (r r′ : Answer) (after after′ : List A)
+    → Done a w r before after → Done a w r′ before after′ → (r ≡ r′) × (after ≡ after′)
+one-done a w before r r′ after after′ d e = (d .answers ∙ sym (e .answers), d .writes ∙ sym (e .writes))
+
+-- nothing is written on refusal
+pub over-none : {A : Type 0} (old : List A) → over [] old ≡ old
+unfolding over
+over-none old = refl
 
 -- an answer is not both
 pub never-both : {A : Type 0} (why : Refusal) → Accepted ≡ Refused why → A

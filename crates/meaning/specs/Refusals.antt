@@ -13,7 +13,7 @@ use Rattle.meaning.specs.declared.Far.the-variants as far
 use Rattle.meaning.specs.declared.Row.{Row}
 use Rattle.meaning.specs.declared.Refusal.{Refusal}
 use Rattle.meaning.specs.declared.Refusal.the-variants as no
-use Rattle.meaning.specs.Basics.{all, every}
+use Rattle.meaning.specs.Basics.{all, every, over}
 use Rattle.meaning.specs.Limits.{limit}
 use Rattle.meaning.specs.Constants.{oddOf}
 use Rattle.meaning.specs.Graph.{rowLength, rows, flat, ready, Fits, fits?, Sound, served?}
@@ -176,6 +176,11 @@ abbrev pub distanceOrder : ℕ → List ℕ → ℕ → List Answer
 distanceOrder b vals c = bitLimit b ∷ readyLength vals ∷ readyValues b vals ∷ target b c ∷ []
 
 -- ---- what each call answers, and what it writes from the front of a lent slice of some room: nothing on refusal
+
+-- what a call that writes has done: its answer, and a lent slice's contents afterwards
+pub record Done {A : Type 0} (answer : Answer) (written : List A) (r : Answer) (before after : List A) : Type 0 where
+  pub answers : r ≡ answer
+  pub writes : after ≡ over written before
 
 abbrev pub given {ℓ} : {A : Type ℓ} → Answer → List A → List A
 given Accepted xs = xs
