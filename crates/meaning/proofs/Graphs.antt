@@ -47,6 +47,13 @@ rows-more (suc n) w =
     (rows-more n (drop rowLength w)
     ∙ ap (λ x. rows n (drop rowLength w) ++ (x ∷ [])) (row-drop w (rowLength * n) ∙ ap (rowAt w) (omega arith)))
 
+-- a row of the slice by its number
+pub row-of : (n : ℕ) (w : List ℕ) (i : ℕ) (d : Row) → i < n → getD (rows n w) i d ≡ rowAt w (rowLength * i)
+unfolding rows
+row-of zero w i d h = absurd (omega arith)
+row-of (suc n) w zero d h = refl
+row-of (suc n) w (suc i) d h = row-of n (drop rowLength w) i d (omega arith) ∙ row-drop w (rowLength * i) ∙ ap (rowAt w) (omega arith)
+
 -- the value of the row after k rows is that row's last word
 pub value-is : (n : ℕ) (w : List ℕ) (k : ℕ) → k < n → getD (values (rows n w)) k 0 ≡ getD w (rowLength * k + 6) 0
 unfolding rows

@@ -87,6 +87,23 @@ pub last : (a : Answer) → firstOf (a ∷ []) ≡ a
 last Accepted = refl
 last (Refused why) = refl
 
+-- several stages before others: a refusal among them stops there, and their acceptance passes on
+stop : (xs ys : List Answer) (why : Refusal) → firstOf xs ≡ Refused why → Refused why ≡ firstOf (xs ++ ys)
+stop [] ys why e = never-both why e
+stop (Accepted ∷ xs) ys why e = stop xs ys why e
+stop (Refused y ∷ xs) ys why e = sym e
+
+pub stops-at : (xs ys : List Answer) (a : Answer) (why : Refusal) → a ≡ firstOf xs → a ≡ Refused why → a ≡ firstOf (xs ++ ys)
+stops-at xs ys a why f e = e ∙ stop xs ys why (sym f ∙ e)
+
+pub passes-on : (xs ys : List Answer) (a : Answer) → a ≡ firstOf xs → a ≡ Accepted → firstOf (xs ++ ys) ≡ firstOf ys
+passes-on xs ys a f e = go xs (sym f ∙ e)
+  where
+    go : (xs : List Answer) → firstOf xs ≡ Accepted → firstOf (xs ++ ys) ≡ firstOf ys
+    go [] e = refl
+    go (Accepted ∷ xs) e = go xs e
+    go (Refused why ∷ xs) e = never-both why (sym e)
+
 -- ---- one condition
 
 branch : (b : Bool) (a : Answer) (why : Refusal) → cond b a (Refused why) ≡ Accepted → T b × (a ≡ Accepted)

@@ -109,3 +109,7 @@ pub all-append : (xs ys : List Bool) → all (xs ++ ys) ≡ (all xs && all ys)
 all-append [] ys = refl
 all-append (true ∷ xs) ys = all-append xs ys
 all-append (false ∷ xs) ys = refl
+
+pub and-true : (a : Bool) → (a && true) ≡ a
+and-true true = refl
+and-true false = refl

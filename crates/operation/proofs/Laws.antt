@@ -10,7 +10,7 @@ use Rattle.meaning.specs.declared.Operated.{Operated}
 use Rattle.meaning.specs.declared.Operated.the-variants.{Made, Invalid}
 use Rattle.meaning.specs.Basics.{all, zeros}
 use Rattle.meaning.specs.Operation.{whole, size, outcome?, valid?, operated}
-use Rattle.meaning.proofs.Tests.{true-of, false-of, all-append}
+use Rattle.meaning.proofs.Tests.{true-of, false-of, all-append, and-true}
 use Rattle.meaning.proofs.Operations.{outcome-of-test, test-of-outcome, size-is}
 use Rattle.operation.specs.Code.{outcomeOf}
 
@@ -53,10 +53,6 @@ module _ (L u v l1 l2 s : ℕ) where
   valid-is : valid? L u v l1 l2 s (zeros m) (rest m) ≡ (all shifts && (outcome? L m (zeros m) (rest m) && true))
   unfolding valid?
   valid-is = all-append shifts (outcome? L m (zeros m) (rest m) ∷ [])
-
-  and-true : (a : Bool) → (a && true) ≡ a
-  and-true true = refl
-  and-true false = refl
 
   pub operated-not : all shifts ≡ false → operated L u v l1 l2 s ≡ Invalid
   unfolding operated
