@@ -10,7 +10,7 @@ ghost use lib.Dec.{leb};
 ghost use lib.ListN.{length};
 ghost use Rattle.meaning.specs.Basics.{all, has};
 ghost use Rattle.meaning.specs.Graph.{rowLength, rows, values};
-ghost use Rattle.meaning.specs.Refusals.{mostRows, validRows, allServed, checked};
+ghost use Rattle.meaning.specs.Refusals.{mostRows, validRows, allServed, checked, sized};
 
 // Refusal 6 with the first row that is not valid.
 fn valid_rows(b: u32, n: usize, words: &[u32]) -> Answer
@@ -96,4 +96,18 @@ pub fn check(b: u32, ts: &[i32], n: usize, words: &[u32]) -> Answer
         return valid;
     };
     all_served(ts, n, words)
+}
+
+// As check, then 9: for the calls that speak of widths.
+pub fn check_width(b: u32, ts: &[i32], n: usize, words: &[u32], input: u32) -> Answer
+    ensures { λ r. ⌜ r ≡ sized b (now (ts .entry)) n (now (words .entry)) input ⌝ }
+{
+    let checked = check(b, ts, n, words);
+    let Answer::Accepted = checked else {
+        return checked;
+    };
+    if !numbers::within(input as usize, 2, 32) {
+        return Answer::Refused(Refusal::Width);
+    }
+    checked
 }

@@ -12,7 +12,7 @@ use Rattle.meaning.specs.declared.Refusal.the-variants as no
 use Rattle.meaning.specs.Limits.{limit}
 use Rattle.meaning.specs.Constants.{oddOf}
 use Rattle.meaning.specs.Graph.{rowLength, rows, Sound, served?}
-use Rattle.meaning.specs.Refusals.{mostRows, admitOrder, checkOrder, admitted, checked}
+use Rattle.meaning.specs.Refusals.{mostRows, admitOrder, checkOrder, admitted, checked, sizedOrder, sized}
 use Rattle.meaning.proofs.Tests.{every-in, in-every}
 use Rattle.meaning.proofs.Stages.{first-accepts, all-accept, need-accepts, of-need, each-accepts, of-each, rows-accept, of-sound}
 
@@ -89,3 +89,22 @@ of-good b ts n w g =
         ),
       ),
     )
+
+-- ---- an input width besides
+
+abbrev widthTests : ℕ → List Bool
+widthTests input = leb 2 input ∷ leb input 32 ∷ []
+
+pub record GoodWidth (b : ℕ) (ts : List ℤ) (n : ℕ) (w : List ℕ) (input : ℕ) : Type 0 where
+  pub good : Good b ts n w
+  pub width : (2 ≤ input) × (input ≤ 32)
+
+pub sized-of : (b : ℕ) (ts : List ℤ) (n : ℕ) (w : List ℕ) (input : ℕ) → sized b ts n w input ≡ Accepted → GoodWidth b ts n w input
+unfolding sized checked
+sized-of b ts n w input e =
+    let (s1, (s2, (s3, (s5, (s6, (s7, (s9, _))))))) = first-accepts (sizedOrder b ts n w input) e in
+    let q9 = need-accepts no.Width (widthTests input) s9 in
+    record {
+      good = good-of b ts n w (all-accept (checkOrder b ts n w) (s1, (s2, (s3, (s5, (s6, (s7, tt)))))));
+      width = omega (arith, leb→le);
+    }

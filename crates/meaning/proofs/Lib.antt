@@ -11,5 +11,6 @@ pub mod Prefixes
 pub mod Chain
 pub mod Stages
 pub mod Walks
+pub mod Over
 pub mod Checked
 pub mod Widths

@@ -14,7 +14,7 @@ use Rattle.meaning.specs.declared.Refusal.the-variants as no
 use Rattle.meaning.specs.declared.Row.{Row}
 use Rattle.meaning.specs.Basics.{all, every, over}
 use Rattle.meaning.specs.Graph.{Fits, fits?, Sound, ready, values}
-use Rattle.meaning.specs.Refusals.{need, needEach, FirstBad, rowsFrom, FirstBadRow, firstOf, Done}
+use Rattle.meaning.specs.Refusals.{need, needEach, FirstBad, rowsFrom, FirstBadRow, firstOf, Done, given}
 use Rattle.meaning.proofs.Tests.{both-of, of-both, true-of, false-of, T-of, All, all-of, of-all}
 use Rattle.meaning.proofs.Operations.{valid-of-test, test-of-valid}
 
@@ -30,6 +30,15 @@ one-done a w before r r′ after after′ d e = (d .answers ∙ sym (e .answers)
 pub over-none : {A : Type 0} (old : List A) → over [] old ≡ old
 unfolding over
 over-none old = refl
+
+-- what a call that writes does: a refusal leaves the slice as it was, and acceptance writes over its front
+pub refused-done : {A : Type 0} (a r : Answer) (why : Refusal) (ws old : List A) → r ≡ a → r ≡ Refused why → Done a (given a ws) r old old
+refused-done a r why ws old e f =
+    record { answers = e; writes = sym (over-none old) ∙ ap (λ b. over (given b ws) old) (sym f ∙ e) }
+
+pub accepted-done : {A : Type 0} (a : Answer) (ws before after : List A) → a ≡ Accepted → after ≡ over ws before → Done a (given a ws) Accepted before after
+accepted-done a ws before after e f =
+    record { answers = sym e; writes = f ∙ ap (λ b. over (given b ws) before) (sym e) }
 
 -- an answer is not both
 pub never-both : {A : Type 0} (why : Refusal) → Accepted ≡ Refused why → A

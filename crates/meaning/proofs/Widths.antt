@@ -37,6 +37,9 @@ extra-least v =
     let h : v ≤ 2 ^ v = omega (arith, below-pow v) in
     search-least v 0 v (λ d q. omega arith) (subst (λ j. v ≤ 2 ^ j) z h)
 
+pub extra-small : (v : ℕ) → v < 2 ^ 32 → extraBits v ≤ 32
+extra-small v h = extra-least v .least 32 (omega arith)
+
 -- by the machine's leading zeros of v - 1
 no-less : (a m d : ℕ) → 2 ^ m ≤ 2 * a + 1 → a < 2 ^ d → m ≤ d
 no-less a m d l h = le-of-suc-le-suc (lt-of-not-le (λ (g : suc d ≤ m). not-le-of-lt (twice g) (pow-mono g)))

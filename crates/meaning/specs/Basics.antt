@@ -4,7 +4,7 @@ use mathlib.Core.List.{List, [], _∷_, _++_}
 use mathlib.Core.Option.{Option, some, none}
 use Prim.Native.Nat.{ℕ, zero, suc, _+_, _-_, _*_, _/_, _%_, _^_}
 use lib.Dec.{eqb}
-use lib.ListN.{length, drop}
+use lib.ListN.{length, take, drop}
 
 -- a - b or b - a, whichever is not negative
 abbrev pub gap : ℕ → ℕ → ℕ
@@ -56,6 +56,10 @@ andThen (some a) f = f a
 -- a list written over the front of another: the rest keeps its contents
 unfoldable pub over {ℓ} : {A : Type ℓ} → List A → List A → List A
 over new old = new ++ drop (length new) old
+
+-- the same from place n on
+unfoldable pub after {ℓ} : {A : Type ℓ} → ℕ → List A → List A → List A
+after n new old = take n old ++ over new (drop n old)
 
 -- the trailing zero bits of n, counted in at most k halvings
 unfoldable pub zerosIn : ℕ → ℕ → ℕ

@@ -163,11 +163,15 @@ checkOrder b ts n w = admitOrder b ts ++ (rowCount n w ∷ validRows b (rows n w
 abbrev pub productsOrder : ℕ → List ℤ → ℕ → List ℕ → ℕ → List Answer
 productsOrder b ts n w room = checkOrder b ts n w ++ (buffer (length ts) room ∷ [])
 
+-- as check, then 9
+abbrev pub sizedOrder : ℕ → List ℤ → ℕ → List ℕ → ℕ → List Answer
+sizedOrder b ts n w input = checkOrder b ts n w ++ (inputWidth input ∷ [])
+
 abbrev pub widthsOrder : ℕ → List ℤ → ℕ → List ℕ → ℕ → ℕ → List Answer
-widthsOrder b ts n w input room = checkOrder b ts n w ++ (inputWidth input ∷ buffer (n + length ts) room ∷ [])
+widthsOrder b ts n w input room = sizedOrder b ts n w input ++ (buffer (n + length ts) room ∷ [])
 
 abbrev pub rankingOrder : ℕ → List ℤ → ℕ → List ℕ → ℕ → ℕ → List Answer
-rankingOrder b ts n w input room = checkOrder b ts n w ++ (inputWidth input ∷ buffer n room ∷ [])
+rankingOrder b ts n w input room = sizedOrder b ts n w input ++ (buffer n room ∷ [])
 
 abbrev pub generateOrder : ℕ → List ℤ → ℕ → List Answer
 generateOrder b ts room = admitOrder b ts ++ (buffer (rowLength * mostRows) room ∷ fewRows (generated b ts) ∷ [])
@@ -197,6 +201,9 @@ multiplied b ts n w room = firstOf (productsOrder b ts n w room)
 
 unfoldable pub productsWritten : ℕ → List ℤ → ℕ → List ℕ → ℤ → ℕ → List ℤ
 productsWritten b ts n w x room = given (multiplied b ts n w room) (targetProducts (rows n w) x ts)
+
+unfoldable pub sized : ℕ → List ℤ → ℕ → List ℕ → ℕ → Answer
+sized b ts n w input = firstOf (sizedOrder b ts n w input)
 
 unfoldable pub measured : ℕ → List ℤ → ℕ → List ℕ → ℕ → ℕ → Answer
 measured b ts n w input room = firstOf (widthsOrder b ts n w input room)

@@ -1,6 +1,15 @@
-// Widths: the bits that a value adds to its input's.
+// Widths: how many bits each row and each output needs for inputs of a given width.
+use meaning::Answer;
+use meaning::ROW_LENGTH;
+use meaning::Refusal;
 ghost use mathlib.Core.Path.{_≡_};
-ghost use Rattle.meaning.specs.Widths.{extraBits};
+ghost use mathlib.Core.List.{map};
+ghost use Prim.Native.Nat.{_+_, _*_, _≤_};
+ghost use lib.ListN.{length};
+ghost use Rattle.meaning.specs.Basics.{over, after};
+ghost use Rattle.meaning.specs.Graph.{rowLength, rowAt, rows};
+ghost use Rattle.meaning.specs.Widths.{extraBits, rowWidth, outputWidth};
+ghost use Rattle.meaning.specs.Refusals.{Done, measured, widthsWritten};
 
 // The least e with 2^e at least value.
 pub fn extra_bits(value: u32) -> u32
@@ -10,4 +19,69 @@ pub fn extra_bits(value: u32) -> u32
         return 0;
     }
     32 - u32::leading_zeros(value - 1)
+}
+
+// The width of the row after i rows.
+pub fn row_width(words: &[u32], i: usize, input: u32) -> u32
+    requires { ⌜ (input ≤ 32) × (rowLength * (i + 1) ≤ length (now words)) ⌝ }
+    ensures { λ r. ⌜ r ≡ rowWidth input (rowAt (now (words .entry)) (rowLength * i)) ⌝ }
+{
+    let value = words[ROW_LENGTH * i + 6];
+    input + extra_bits(value)
+}
+
+// The width of a target's output.
+fn output_width(t: i32, input: u32) -> u32
+    requires { ⌜ input ≤ 32 ⌝ }
+    ensures { λ r. ⌜ r ≡ outputWidth input t ⌝ }
+{
+    let m = numbers::magnitude(t);
+    if m == 0 {
+        return 1;
+    }
+    input + extra_bits(m)
+}
+
+// The rows' widths, in row order, from the front.
+fn row_widths(words: &[u32], n: usize, input: u32, out: &mut [u32])
+    requires { ⌜ ((input ≤ 32) × (rowLength * n ≤ length (now words))) × (n ≤ length (now out)) ⌝ }
+    ensures { λ _. ⌜ now (out .exit) ≡ over (map (rowWidth input) (rows n (now (words .entry)))) (now (out .entry)) ⌝ }
+{
+    let mut i = 0;
+    while i < n {
+        out[i] = row_width(words, i, input);
+        i += 1;
+    }
+}
+
+// The outputs' widths, in the order of the targets, from a place on.
+fn output_widths(ts: &[i32], input: u32, from: usize, out: &mut [u32])
+    requires { ⌜ (input ≤ 32) × (from + length (now ts) ≤ length (now out)) ⌝ }
+    ensures { λ _. ⌜ now (out .exit) ≡ after from (map (outputWidth input) (now (ts .entry))) (now (out .entry)) ⌝ }
+{
+    let mut i = 0;
+    while i < ts.len() {
+        let t = ts[i];
+        out[from + i] = output_width(t, input);
+        i += 1;
+    }
+}
+
+// Rows in row order, then outputs. Refusals as check, then 9, then 4.
+pub fn measure(b: u32, ts: &[i32], n: usize, words: &[u32], input: u32, out: &mut [u32]) -> Answer
+    ensures { λ r. ⌜
+        Done (measured b (now (ts .entry)) n (now (words .entry)) input (length (now (out .entry))))
+        (widthsWritten b (now (ts .entry)) n (now (words .entry)) input (length (now (out .entry)))) r (now (out .entry)) (now (out .exit))
+        ⌝ }
+{
+    let sized = graph::check_width(b, ts, n, words, input);
+    let Answer::Accepted = sized else {
+        return sized;
+    };
+    if out.len() < n + ts.len() {
+        return Answer::Refused(Refusal::Buffer);
+    }
+    row_widths(words, n, input, out);
+    output_widths(ts, input, n, out);
+    Answer::Accepted
 }
