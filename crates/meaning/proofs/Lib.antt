@@ -15,3 +15,4 @@ pub mod Over
 pub mod Checked
 pub mod Widths
 pub mod Ranking
+pub mod Fewest
