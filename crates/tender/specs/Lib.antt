@@ -1,2 +1,3 @@
 -- What the buyer is promised.
 pub mod Examples
+pub mod Condition2
