@@ -13,3 +13,4 @@ pub mod Stages
 pub mod Walks
 pub mod Checked
 pub mod Widths
+pub mod Products
