@@ -14,3 +14,4 @@ pub mod Walks
 pub mod Checked
 pub mod Widths
 pub mod Products
+pub mod Over

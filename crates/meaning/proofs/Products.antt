@@ -1,27 +1,29 @@
 -- The products of valid rows, worked by their words, are their values times x; a served target's product is the target times x; an output's index is
 -- the lowest that has its odd part; rows one by one; and how large a valid row's terms are. Assumes nothing.
-use mathlib.Core.Path.{_≡_, refl, sym, ap, _∙_, subst}
+use mathlib.Core.Path.{_≡_, refl, sym, ap, ap₂, _∙_, subst}
 use mathlib.Core.Bool.{Bool, true, false, not, cond, _||_}
 use mathlib.Core.List.{List, [], _∷_, _++_, map, append-assoc, append-nil, map-append}
 use mathlib.Core.Logic.{⊎-elim}
 use Prim.Native.Nat.{ℕ, zero, suc, _+_, _-_, _*_, _%_, _^_, _≤_, _<_, min}
 use native.Mathlib.Nat.{mul-assoc, div-one, pow-succ', le-of-suc-le-suc}
+use native.Mathlib.Numerals.{add-one}
 use native.Mathlib.Omega.{arith}
 use native.Mathlib.Decide.{decLt}
-use borrow.Author.Tests.{ltb-true}
+use borrow.Author.Tests.{ltb-true, eq-eqb, ne-eqb}
 use lib.Dec.{T, ltb, leb, eqb, eqb→eq, leb→le}
 use lib.IntN.{ℤ, pos, negsuc, negℤ, natAbs, _-ℤ_, _*ℤ_, zero-*ℤ, *ℤ-comm}
 use lib.Signed.{quotZ, nonNeg}
 use lib.Pow.{pow-pos, pow-mono}
-use lib.ListN.{length, getD, List·getD-map}
+use lib.ListN.{length, getD, drop, drop-of-length-le, List·getD-map}
+use lib.Seq.{drop-cons}
 use Rattle.numbers.proofs.Integers.{add-mul, sub-mul, neg-mul, mul-assocℤ, quot-exact}
 use Rattle.meaning.specs.declared.Row.{Row}
-use Rattle.meaning.specs.Basics.{has, indexFrom}
+use Rattle.meaning.specs.Basics.{every, has, indexFrom}
 use Rattle.meaning.specs.Constants.{signOf, shiftOf, oddOf, apart}
 use Rattle.meaning.specs.Operation.{whole, size, Outcome, Valid}
 use Rattle.meaning.specs.Graph.{rowLength, rowAt, rows, values, ready, Fits, Sound, served?, outputIndex}
-use Rattle.meaning.specs.Products.{turned?, joined, turnedBy, rowProduct, productsFrom, products, targetProduct}
-use Rattle.meaning.proofs.Tests.{either-of, of-left, of-right, eq→eqb, T-of}
+use Rattle.meaning.specs.Products.{turned?, joined, turnedBy, rowProduct, productsFrom, products, targetProduct, targetProducts}
+use Rattle.meaning.proofs.Tests.{both-of, either-of, of-left, of-right, eq→eqb, T-of}
 use Rattle.meaning.proofs.Zeros.{zeros-left, zeros-of-odd, zeros-low}
 use Rattle.meaning.proofs.Apart.{apart-whole}
 use Rattle.meaning.proofs.Operations.{exact-of, size-is}
@@ -51,7 +53,7 @@ module _ (x : ℤ) where
       ap (λ z. quotZ z (pos d)) (mul-assocℤ (pos c) (pos d) x ∙ ap (λ z. pos c *ℤ z) (*ℤ-comm (pos d) x) ∙ sym (mul-assocℤ (pos c) x (pos d)))
       ∙ quot-exact (times c) d h
 
-  product-at : (vals : List ℕ) (i : ℕ) → getD (map times vals) i (pos 0) ≡ times (getD vals i 0)
+  pub product-at : (vals : List ℕ) (i : ℕ) → getD (map times vals) i (pos 0) ≡ times (getD vals i 0)
   product-at vals i = ap (getD (map times vals) i) (sym (zero-*ℤ x)) ∙ List·getD-map times vals i 0
 
 less-negative : (a b : ℕ) → ltb a b ≡ not (nonNeg (pos a -ℤ pos b))
@@ -134,10 +136,33 @@ index-is k (x ∷ xs) c t = go (eqb x c) refl t (λ q. index-is (suc k) xs c q)
         let (i, f, l) = rest t in
         (suc i, f ∙ omega arith, record { inside = let h = l .inside in omega arith; at = l .at; below = none-below x xs c i e (l .below) })
 
+-- it is inside the list also where none has c
+pub index-inside : (k : ℕ) (xs : List ℕ) (c : ℕ) → 0 < k + length xs → indexFrom k xs c < k + length xs
+unfolding indexFrom
+index-inside k [] c h = h
+index-inside k (x ∷ xs) c h = go (eqb x c) (index-inside (suc k) xs c (omega arith))
+  where
+    go : (b : Bool) → indexFrom (suc k) xs c < suc k + length xs → cond b k (indexFrom (suc k) xs c) < k + suc (length xs)
+    go true l = omega arith
+    go false l = omega arith
+
+-- the same as a loop over the list meets it: the index for all is the index for what is left
+pub index-miss : (k i : ℕ) (xs : List ℕ) (c : ℕ) → i < length xs → (getD xs i 0 ≡ c → ⊥) → indexFrom k (drop i xs) c ≡ indexFrom (k + 1) (drop (i + 1) xs) c
+unfolding indexFrom
+index-miss k i xs c h n = rw (drop-cons xs i 0 h, ne-eqb (getD xs i 0) c n, add-one k, add-one i)
+
+pub index-hit : (k i : ℕ) (xs : List ℕ) (c : ℕ) → i < length xs → getD xs i 0 ≡ c → indexFrom k (drop i xs) c ≡ k
+unfolding indexFrom
+index-hit k i xs c h e = rw (drop-cons xs i 0 h, eq-eqb (getD xs i 0) c e)
+
+pub index-end : (k i : ℕ) (xs : List ℕ) (c : ℕ) → length xs ≤ i → indexFrom k (drop i xs) c ≡ 0
+unfolding indexFrom
+index-end k i xs c h = rw (drop-of-length-le xs h)
+
 -- ---- a target's product
 
 -- of a target that is not zero
-served-index : (xs : List Row) (t : ℤ) → oddOf t % 2 ≡ 1 → T (served? xs t) → Lowest (ready xs) (oddOf t) (outputIndex xs t)
+pub served-index : (xs : List Row) (t : ℤ) → oddOf t % 2 ≡ 1 → T (served? xs t) → Lowest (ready xs) (oddOf t) (outputIndex xs t)
 unfolding served? outputIndex
 served-index xs t o h =
     let (i, e, l) = index-is 0 (ready xs) (oddOf t) (⊎-elim one other (either-of (leb (oddOf t) 1) (has (values xs) (oddOf t)) h)) in
@@ -163,6 +188,14 @@ unfolding targetProduct
 target-product L xs x (pos zero) g h = zero-*ℤ (pos (2 ^ shiftOf (pos 0)) *ℤ getD (products xs x) (outputIndex xs (pos 0)) (pos 0)) ∙ sym (zero-*ℤ x)
 target-product L xs x (pos (suc n)) g h = served-product L xs x (pos (suc n)) g h (zeros-left (suc n) (omega arith))
 target-product L xs x (negsuc n) g h = served-product L xs x (negsuc n) g h (zeros-left (suc n) (omega arith))
+
+-- the products of a list of served targets
+pub target-products : (L : ℕ) (xs : List Row) (x : ℤ) (ts : List ℤ) → Sound L (1 ∷ []) xs → T (every (served? xs) ts) → targetProducts xs x ts ≡ map (λ t. t *ℤ x) ts
+unfolding targetProducts
+target-products L xs x [] g h = refl
+target-products L xs x (t ∷ ts) g h =
+    let p = both-of (served? xs t) (every (served? xs) ts) h in
+    ap₂ (λ y ys. y ∷ ys) (target-product L xs x t g (p .0)) (target-products L xs x ts g (p .1))
 
 -- ---- rows one by one
 

@@ -2,14 +2,14 @@
 -- within 64 bits. Assumes nothing.
 use mathlib.Core.Path.{_≡_}
 use mathlib.Core.List.{List, [], _∷_}
-use Prim.Native.Nat.{ℕ, _+_, _*_, _^_, _≤_, _<_}
+use Prim.Native.Nat.{ℕ, _+_, _*_, _^_, _≤_}
 use lib.IntN.{ℤ, pos, natAbs, _*ℤ_}
 use lib.ListN.{length, getD}
 use lib.Signed.{quotZ}
 use Rattle.meaning.specs.declared.Row.{Row}
 use Rattle.meaning.specs.Constants.{signOf, shiftOf}
 use Rattle.meaning.specs.Graph.{rowLength, rowAt, rows, Sound, outputIndex}
-use Rattle.meaning.specs.Products.{turned?, joined, turnedBy}
+use Rattle.meaning.specs.Products.{turned?, joined, turnedBy, products}
 
 -- a row's product, from its operands' values u and v and their products p and q
 unfoldable pub worked : (u v : ℕ) → (p q : ℤ) → Row → ℤ
@@ -40,13 +40,13 @@ pub record Graph (n : ℕ) (w : List ℕ) : Type 0 where
   pub room : rowLength * n ≤ length w
   pub sound : Sound limit (1 ∷ []) (rows n w)
 
+-- their products by index, for some x of 32 bits
+pub record Made (n : ℕ) (w : List ℕ) (ps : List ℤ) : Type 0 where
+  pub graph : Graph n w
+  pub x : ℤ
+  pub small : natAbs x ≤ 2 ^ 31
+  pub are : ps ≡ products (rows n w) x
+
 -- a target's product, from the products by index
 unfoldable pub targetFrom : List Row → List ℤ → ℤ → ℤ
 targetFrom xs ps t = signOf t *ℤ (pos (2 ^ shiftOf t) *ℤ getD ps (outputIndex xs t) (pos 0))
-
--- the target's index has a product, which its shift leaves within 64 bits
-pub record Reached (n : ℕ) (w : List ℕ) (ps : List ℤ) (t : ℤ) : Type 0 where
-  pub few : n ≤ 128
-  pub room : rowLength * n ≤ length w
-  pub inside : outputIndex (rows n w) t < length ps
-  pub low : 2 ^ shiftOf t * natAbs (getD ps (outputIndex (rows n w) t) (pos 0)) ≤ 2 ^ 62

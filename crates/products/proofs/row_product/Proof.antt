@@ -1,6 +1,6 @@
 -- `row_product` meets its contract: no step is larger than 2^62. Assumes nothing.
 use mathlib.Core.Path.{_≡_}
-use Prim.Native.Nat.{_+_, _*_, _^_, _≤_}
+use Prim.Native.Nat.{_^_, _≤_}
 use native.Mathlib.Omega.{arith}
 use borrow.Author.Needs.{needs}
 use lib.IntN.{pos, natAbs}
@@ -10,7 +10,7 @@ use mir.Syntax.{w64}
 use mir.Val.{SFits}
 use mir.ValLaws.{toZ-ofZ}
 use Rattle.numbers.proofs.Integers.{abs-fits, abs-quot}
-use Rattle.meaning.specs.Products.{turned?, joined, turnedBy}
+use Rattle.meaning.specs.Products.{joined, turnedBy}
 use Rattle.products.specs.Worked.{worked}
 use Rattle.products.proofs.Laws.{abs-joined, abs-turned}
 use Rattle.products.proofs.row_product.Statement.{statement}

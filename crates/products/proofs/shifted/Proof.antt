@@ -1,5 +1,5 @@
 -- `shifted` meets its contract: by its requirement the product is at most 2^62. Assumes nothing.
-use Prim.Native.Nat.{_*_, _^_}
+use Prim.Native.Nat.{_^_}
 use native.Mathlib.Omega.{arith}
 use borrow.Author.Needs.{needs}
 use lib.IntN.{pos, _*ℤ_}
