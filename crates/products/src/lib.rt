@@ -110,12 +110,12 @@ fn lowest(n: usize, words: &[u32], value: u32) -> usize
     requires { ⌜ (n ≤ 128) × (rowLength * n ≤ length (now words)) ⌝ }
     ensures { λ r. ⌜ r ≡ indexFrom 0 (ready (rows n (now (words .entry)))) value ⌝ }
 {
-    let mut i = 0;
-    while i <= n {
-        if rows::value_at(words, n, i) == value {
-            return i;
+    let mut index = 0;
+    while index <= n {
+        if rows::value_at(words, n, index) == value {
+            return index;
         }
-        i += 1;
+        index += 1;
     }
     0
 }
@@ -126,8 +126,8 @@ fn target_product(n: usize, words: &[u32], made: &[i64], t: i32) -> i64
     ensures { λ r. ⌜ r ≡ targetFrom (rows n (now (words .entry))) (now (made .entry)) t ⌝ }
 {
     let parts = constants::take_apart(t);
-    let at = lowest(n, words, parts.odd);
-    let p = made[at];
+    let index = lowest(n, words, parts.odd);
+    let p = made[index];
     (parts.sign as i64) * shifted(p, parts.shift)
 }
 
@@ -136,11 +136,11 @@ fn write_targets(ts: &[i32], n: usize, words: &[u32], made: &[i64], out: &mut [i
     requires { ⌜ (length (now ts) ≤ length (now out)) × Made n (now words) (now made) × T (every (served? (rows n (now words))) (now ts)) ⌝ }
     ensures { λ _. ⌜ now (out .exit) ≡ over (map (targetFrom (rows n (now (words .entry))) (now (made .entry))) (now (ts .entry))) (now (out .entry)) ⌝ }
 {
-    let mut i = 0;
-    while i < ts.len() {
-        let t = ts[i];
-        out[i] = target_product(n, words, made, t);
-        i += 1;
+    let mut k = 0;
+    while k < ts.len() {
+        let t = ts[k];
+        out[k] = target_product(n, words, made, t);
+        k += 1;
     }
 }
 

@@ -12,13 +12,13 @@ use Rattle.products.proofs.lowest.Statement.{statement}
 use Rattle.products.proofs.lowest.Tie as tie
 
 abbrev Inv-loop : tie.InvT-loop
-Inv-loop n words value i₀ i = (i ≤ n + 1) × (indexFrom 0 (ready (rows n words)) value ≡ indexFrom i (drop i (ready (rows n words))) value)
+Inv-loop n words value index₀ index = (index ≤ n + 1) × (indexFrom 0 (ready (rows n words)) value ≡ indexFrom index (drop index (ready (rows n words))) value)
 
 abbrev μ-loop : tie.MeasureT-loop
-μ-loop n words value i₀ i = n + 1 - i
+μ-loop n words value index₀ index = n + 1 - index
 
 -- a turn's index has a value
-inside : (c : tie.In-loop Inv-loop μ-loop) → let s = c .before .before .before .args in c .before .loop .i < length (ready (rows (s .n) (s .words .now)))
+inside : (c : tie.In-loop Inv-loop μ-loop) → let s = c .before .before .before .args in c .before .loop .index < length (ready (rows (s .n) (s .words .now)))
 inside c = let s = c .before .before .before .args in omega (arith, length-ready (s .n) (s .words .now), c .loop-test .taken)
 
 loop-holds : tie.Need-loop-holds Inv-loop μ-loop
@@ -30,10 +30,10 @@ value-at-requires c κs = search needs
 returns : tie.Need-returns Inv-loop μ-loop
 returns c =
     let s = c .before .before .before in
-    sym (s .loop .inv .1 ∙ index-hit (s .loop .i) (s .loop .i) _ _ (inside (c .before .before)) (sym (c .before .value-at .ensures) ∙ c .if1 .taken))
+    sym (s .loop .inv .1 ∙ index-hit (s .loop .index) (s .loop .index) _ _ (inside (c .before .before)) (sym (c .before .value-at .ensures) ∙ c .if1 .taken))
 
-add-i : tie.Need-add-i Inv-loop μ-loop
-add-i c = search needs
+add-index : tie.Need-add-index Inv-loop μ-loop
+add-index c = search needs
 
 loop-less : tie.Need-loop-less Inv-loop μ-loop
 loop-less c = search needs
@@ -42,13 +42,13 @@ loop-again : tie.Need-loop-again Inv-loop μ-loop
 loop-again c =
     let s = c .before .before .before in (
       omega arith,
-      s .loop .inv .1 ∙ index-miss (s .loop .i) (s .loop .i) _ _ (inside (c .before .before)) (λ e. c .if1 .left (c .before .value-at .ensures ∙ e)),
+      s .loop .inv .1 ∙ index-miss (s .loop .index) (s .loop .index) _ _ (inside (c .before .before)) (λ e. c .if1 .left (c .before .value-at .ensures ∙ e)),
     )
 
 returns-2 : tie.Need-returns-2 Inv-loop μ-loop
 returns-2 c =
     let s = c .before .before .before .args in
-    sym (c .before .loop .inv .1 ∙ index-end (c .before .loop .i) (c .before .loop .i) _ _ (omega (arith, length-ready (s .n) (s .words .now), c .loop-test .left)))
+    sym (c .before .loop .inv .1 ∙ index-end (c .before .loop .index) (c .before .loop .index) _ _ (omega (arith, length-ready (s .n) (s .words .now), c .loop-test .left)))
 
 pub lowest-spec : {M : Type 1} → statement M
 lowest-spec =
@@ -59,7 +59,7 @@ lowest-spec =
     loop-holds
     value-at-requires
     returns
-    add-i
+    add-index
     loop-less
     loop-again
     returns-2)

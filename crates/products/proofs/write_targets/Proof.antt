@@ -18,13 +18,13 @@ use Rattle.products.proofs.write_targets.Statement.{statement}
 use Rattle.products.proofs.write_targets.Tie as tie
 
 abbrev Inv-loop : tie.InvT-loop
-Inv-loop ts n words made out₀ i₀ out i = (i ≤ length ts) × (length out ≡ length out₀) × (out ≡ over (map (targetFrom (rows n words) made) (take i ts)) out₀)
+Inv-loop ts n words made out₀ k₀ out k = (k ≤ length ts) × (length out ≡ length out₀) × (out ≡ over (map (targetFrom (rows n words) made) (take k ts)) out₀)
 
 abbrev μ-loop : tie.MeasureT-loop
-μ-loop ts n words made out₀ i₀ out i = length ts - i
+μ-loop ts n words made out₀ k₀ out k = length ts - k
 
 -- the element that a turn reads, a number of 32 bits
-t-is : (c : tie.After-t Inv-loop μ-loop) → let t = getD (c .before .before .before .before .args .ts .now) (c .before .before .loop .i) (pos 0) in toZ w32 (ofZ w32 t) ≡ t
+t-is : (c : tie.After-t Inv-loop μ-loop) → let t = getD (c .before .before .before .before .args .ts .now) (c .before .before .loop .k) (pos 0) in toZ w32 (ofZ w32 t) ≡ t
 t-is c = toZ-ofZ w32 _ (record { sfits = c .t .given })
 
 fit : (c : tie.After-target-product Inv-loop μ-loop) → SFits w64 (c .target-product .result)
@@ -42,7 +42,7 @@ shared-slice-copy-out-t c = search needs
 target-product-requires : tie.Need-target-product-requires Inv-loop μ-loop
 target-product-requires c κs =
     let s = c .before .before .before .before in
-    (s .pre .1, rw (t-is c) (every-at (served? (rows (s .args .n) (s .args .words .now))) (s .args .ts .now) (c .before .before .loop .i) (pos 0) (c .before .loop-test .taken) (s .pre .2)))
+    (s .pre .1, rw (t-is c) (every-at (served? (rows (s .args .n) (s .args .words .now))) (s .args .ts .now) (c .before .before .loop .k) (pos 0) (c .before .loop-test .taken) (s .pre .2)))
 
 mul-t8 : tie.Need-mul-t8 Inv-loop μ-loop
 mul-t8 c = search needs
@@ -50,8 +50,8 @@ mul-t8 c = search needs
 slice-set-from-out : tie.Need-slice-set-from-out Inv-loop μ-loop
 slice-set-from-out c = search needs
 
-add-i : tie.Need-add-i Inv-loop μ-loop
-add-i c = search needs
+add-k : tie.Need-add-k Inv-loop μ-loop
+add-k c = search needs
 
 loop-less : tie.Need-loop-less Inv-loop μ-loop
 loop-less c = search needs
@@ -63,7 +63,7 @@ loop-again c =
       omega arith,
       simp length-set (l .inv .1),
       rw (toZ-ofZ w64 _ (fit c), c .target-product .ensures, t-is (c .before), l .inv .2)
-          (over-more (targetFrom (rows (s .args .n) (s .args .words .now)) (s .args .made .now)) (s .args .ts .now) (pos 0) (s .args .out .now) (l .i) (c .before .before .loop-test .taken) (s .pre .0)),
+          (over-more (targetFrom (rows (s .args .n) (s .args .words .now)) (s .args .made .now)) (s .args .ts .now) (pos 0) (s .args .out .now) (l .k) (c .before .before .loop-test .taken) (s .pre .0)),
     )
 
 same-length : tie.Need-same-length Inv-loop μ-loop
@@ -72,7 +72,7 @@ same-length c = search needs
 returns : tie.Need-returns Inv-loop μ-loop
 returns c =
     let s = c .before .before .before .args in
-    c .before .loop .inv .2 ∙ over-end (targetFrom (rows (s .n) (s .words .now)) (s .made .now)) (s .ts .now) (s .out .now) (c .before .loop .i) (omega arith)
+    c .before .loop .inv .2 ∙ over-end (targetFrom (rows (s .n) (s .words .now)) (s .made .now)) (s .ts .now) (s .out .now) (c .before .loop .k) (omega arith)
 
 pub write-targets-spec : {M : Type 1} → statement M
 write-targets-spec =
@@ -86,7 +86,7 @@ write-targets-spec =
     target-product-requires
     mul-t8
     slice-set-from-out
-    add-i
+    add-k
     loop-less
     loop-again
     same-length
