@@ -7,6 +7,7 @@ ghost use Prim.Native.Nat.{_+_, _*_, _^_, _≤_};
 ghost use lib.Dec.{T};
 ghost use lib.IntN.{pos, natAbs, _*ℤ_};
 ghost use lib.ListN.{length, take};
+ghost use lib.Signed.{quotZ};
 ghost use Rattle.meaning.specs.declared.Answer.the-variants.{Accepted};
 ghost use Rattle.meaning.specs.Basics.{every, indexFrom, over};
 ghost use Rattle.meaning.specs.Graph.{rowLength, rowAt, rows, ready, served?};
@@ -65,14 +66,23 @@ fn turn(negative: bool, z: i64) -> i64
     z
 }
 
-// A row's product, from its operands' values and products. The division is exact.
+// z / 2^r, rounded towards 0; a row's is exact.
+fn divided(z: i64, r: u32) -> i64
+    requires { ⌜ (r ≤ 31) × (natAbs z ≤ 2 ^ 62) ⌝ }
+    ensures { λ q. ⌜ q ≡ quotZ z (pos (2 ^ r)) ⌝ }
+{
+    z / power(r)
+}
+
+// A row's product, from its operands' values and products.
 fn row_product(u: u32, v: u32, p: i64, q: i64, x: Row) -> i64
     requires { ⌜ Within p q x ⌝ }
     ensures { λ r. ⌜ r ≡ worked u v p q x ⌝ }
 {
     let n = join(p, q, x);
     let negative = is_turned(u, v, x);
-    turn(negative, n) / power(x.r)
+    let turned = turn(negative, n);
+    divided(turned, x.r)
 }
 
 // The product of the row after i rows, from the products of the indices before it.
