@@ -16,3 +16,4 @@ pub mod Checked
 pub mod Widths
 pub mod Ranking
 pub mod Fewest
+pub mod Products

@@ -6,7 +6,7 @@ use native.Mathlib.Omega.{arith}
 use native.Mathlib.Nat.{suc-add}
 use native.Mathlib.Numerals.{add-one}
 use lib.ListN.{length, take, drop, getD, set, length-append, length-drop, length-map, take-append-drop}
-use lib.Seq.{take-at, drop-at, drop-drop, take-suc, length-take-le}
+use lib.Seq.{take-at, drop-at, drop-drop, take-suc, take-length, length-take-le}
 use Rattle.meaning.specs.declared.Row.{Row}
 use Rattle.meaning.specs.Basics.{over, after}
 use Rattle.meaning.specs.Graph.{rowLength, rowAt, rows}
@@ -58,9 +58,26 @@ over-rows f w old i h =
     over-at (map f (rows i w)) old (f (rowAt w (rowLength * i))) i (length-map (rows i w) f ∙ length-rows i w) h
     ∙ ap (λ l. over l old) (sym (map-append f (rows i w) (rowAt w (rowLength * i) ∷ [])) ∙ ap (map f) (sym (rows-more i w) ∙ ap (λ k. rows k w) (sym (add-one i))))
 
--- and of a loop over a list, from place n on
-pub after-list : {A B : Type 0} (f : A → B) (xs : List A) (d : A) (n : ℕ) (old : List B) (i : ℕ) → i < length xs → n + i < length old
-    → set (after n (map f (take i xs)) old) (n + i) (f (getD xs i d)) ≡ after n (map f (take (i + 1) xs)) old
-after-list f xs d n old i k h =
-    after-at n (map f (take i xs)) old (f (getD xs i d)) i (length-map (take i xs) f ∙ length-take-le i xs (omega arith)) h
-    ∙ ap (λ l. after n l old) (sym (map-append f (take i xs) (getD xs i d ∷ [])) ∙ ap (map f) (sym (take-suc xs i d k) ∙ ap (λ j. take j xs) (sym (add-one i))))
+-- and of a loop over a list: at its start, at a turn, from place n on too, and at its end
+module _ {A B : Type 0} (f : A → B) where
+  pub over-start : (xs : List A) (old : List B) → old ≡ over (map f (take 0 xs)) old
+  unfolding over
+  over-start xs old = refl
+
+  passed : (xs : List A) (d : A) (i : ℕ) → i < length xs → map f (take i xs) ++ (f (getD xs i d) ∷ []) ≡ map f (take (i + 1) xs)
+  passed xs d i k =
+      sym (map-append f (take i xs) (getD xs i d ∷ [])) ∙ ap (map f) (sym (take-suc xs i d k) ∙ ap (λ j. take j xs) (sym (add-one i)))
+
+  count : (xs : List A) (i : ℕ) → i < length xs → length (map f (take i xs)) ≡ i
+  count xs i k = length-map (take i xs) f ∙ length-take-le i xs (omega arith)
+
+  pub over-more : (xs : List A) (d : A) (old : List B) (i : ℕ) → i < length xs → length xs ≤ length old
+      → set (over (map f (take i xs)) old) i (f (getD xs i d)) ≡ over (map f (take (i + 1) xs)) old
+  over-more xs d old i k h = over-at (map f (take i xs)) old (f (getD xs i d)) i (count xs i k) (omega arith) ∙ ap (λ l. over l old) (passed xs d i k)
+
+  pub after-more : (xs : List A) (d : A) (n : ℕ) (old : List B) (i : ℕ) → i < length xs → n + i < length old
+      → set (after n (map f (take i xs)) old) (n + i) (f (getD xs i d)) ≡ after n (map f (take (i + 1) xs)) old
+  after-more xs d n old i k h = after-at n (map f (take i xs)) old (f (getD xs i d)) i (count xs i k) h ∙ ap (λ l. after n l old) (passed xs d i k)
+
+  pub over-end : (xs : List A) (old : List B) (i : ℕ) → i ≡ length xs → over (map f (take i xs)) old ≡ over (map f xs) old
+  over-end xs old i e = ap (λ l. over (map f l) old) (ap (λ n. take n xs) e ∙ take-length xs)

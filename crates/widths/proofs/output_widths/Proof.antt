@@ -11,7 +11,7 @@ use mir.Syntax.{w32}
 use mir.ValLaws.{toZ-ofZ}
 use Rattle.meaning.specs.Basics.{after}
 use Rattle.meaning.specs.Widths.{outputWidth}
-use Rattle.meaning.proofs.Over.{after-none, after-list}
+use Rattle.meaning.proofs.Over.{after-none, after-more}
 use Rattle.widths.proofs.output_widths.Statement.{statement}
 use Rattle.widths.proofs.output_widths.Tie as tie
 
@@ -61,7 +61,7 @@ loop-again c =
       omega arith,
       simp length-set (inv .1),
       ap₂ (λ l v. set l (a .from + s .loop .i) v) (inv .2) (width-is c)
-          ∙ after-list (outputWidth (a .input)) (a .ts .now) (pos 0) (a .from) (a .out .now) (s .loop .i) (c .before .before .loop-test .taken) (omega arith),
+          ∙ after-more (outputWidth (a .input)) (a .ts .now) (pos 0) (a .from) (a .out .now) (s .loop .i) (c .before .before .loop-test .taken) (omega arith),
     )
 
 same-length : tie.Need-same-length Inv-loop μ-loop

@@ -1,0 +1,100 @@
+-- What the code of the products needs of its steps. Assumes nothing.
+use mathlib.Core.Path.{_≡_, refl, sym, ap, subst, subst⁻¹}
+use mathlib.Core.List.{List, [], _∷_, map}
+use mathlib.Core.Bool.{Bool, true, false}
+use Prim.Native.Nat.{ℕ, zero, suc, _+_, _*_, _^_, _≤_, _<_}
+use lib.Dec.{T, ltb}
+use lib.IntN.{ℤ, pos, natAbs, _-ℤ_, _*ℤ_}
+use lib.ListN.{length, getD, take, set}
+use lib.Seq.{take-suc-set}
+use native.Mathlib.Nat.{le-of-suc-le-suc, not-suc-le-zero}
+use native.Mathlib.Numerals.{add-one}
+use native.Mathlib.Omega.{arith}
+use Rattle.numbers.proofs.Integers.{abs-add, abs-sub, abs-mul, abs-neg}
+use Rattle.meaning.specs.declared.Row.{Row}
+use Rattle.meaning.specs.Basics.{every}
+use Rattle.meaning.proofs.Tests.{both-of, in-every}
+use Rattle.meaning.proofs.Checked.{good-of}
+use Rattle.meaning.specs.declared.Answer.the-variants.{Accepted}
+use Rattle.meaning.specs.Limits.{limit}
+use Rattle.meaning.specs.Refusals.{checked}
+use Rattle.meaning.specs.Graph.{rowLength, rowAt, rows, ready, served?}
+use Rattle.meaning.specs.Products.{turned?, joined, turnedBy, rowProduct, productsFrom, products, targetProduct, targetProducts}
+use Rattle.meaning.proofs.Products.{products-more}
+use Rattle.products.specs.Worked.{worked, Within, Next, Graph, targetFrom}
+
+-- as code meets a sign that is not 0
+pub joined-minus : (p q : ℤ) (l1 l2 s : ℕ) → (s ≡ 0 → ⊥) → pos (2 ^ l1) *ℤ p -ℤ pos (2 ^ l2) *ℤ q ≡ joined p q l1 l2 s
+joined-minus p q l1 l2 zero h = absurd (h refl)
+joined-minus p q l1 l2 (suc s) h = refl
+
+pub turned-less : (u v l1 l2 s : ℕ) → (s ≡ 0 → ⊥) → ltb (2 ^ l1 * u) (2 ^ l2 * v) ≡ turned? u v l1 l2 s
+turned-less u v l1 l2 zero h = absurd (h refl)
+turned-less u v l1 l2 (suc s) h = refl
+
+-- how large a step's result is
+pub abs-joined : (p q : ℤ) (l1 l2 s : ℕ) → natAbs (joined p q l1 l2 s) ≤ 2 ^ l1 * natAbs p + 2 ^ l2 * natAbs q
+abs-joined p q l1 l2 zero =
+    omega (arith, abs-add (pos (2 ^ l1) *ℤ p) (pos (2 ^ l2) *ℤ q), abs-mul (pos (2 ^ l1)) p, abs-mul (pos (2 ^ l2)) q)
+abs-joined p q l1 l2 (suc s) =
+    omega (arith, abs-sub (pos (2 ^ l1) *ℤ p) (pos (2 ^ l2) *ℤ q), abs-mul (pos (2 ^ l1)) p, abs-mul (pos (2 ^ l2)) q)
+
+pub abs-turned : (t : Bool) (z : ℤ) → natAbs (turnedBy t z) ≡ natAbs z
+abs-turned false z = refl
+abs-turned true z = abs-neg z
+
+-- ---- a row of a slice
+
+-- from the row y, the values u and v and the products p and q that code has read
+pub next-read : (w : List ℕ) (i : ℕ) (ps : List ℤ) (y : Row) (u v : ℕ) (p q : ℤ) → y ≡ rowAt w (rowLength * i)
+    → u ≡ getD (ready (rows i w)) (y .u) 0 → v ≡ getD (ready (rows i w)) (y .v) 0 → p ≡ getD ps (y .u) (pos 0) → q ≡ getD ps (y .v) (pos 0)
+    → worked u v p q y ≡ rowProduct (ready (rows i w)) ps (rowAt w (rowLength * i))
+unfolding worked rowProduct
+next-read w i ps y u v p q e a b f g = rw (a, b, f, g, e)
+
+-- and that they may be read and worked
+pub read-of : (w : List ℕ) (i : ℕ) (ps : List ℤ) (y : Row) → Next w i ps → y ≡ rowAt w (rowLength * i)
+    → (y .u ≤ i) × (y .v ≤ i) × Within (getD ps (y .u) (pos 0)) (getD ps (y .v) (pos 0)) y
+read-of w i ps y h e =
+    subst⁻¹ (λ z. (z .u ≤ i) × (z .v ≤ i) × Within (getD ps (z .u) (pos 0)) (getD ps (z .v) (pos 0)) z) e (h .first, h .second, h .within)
+
+-- ---- the products by index, in a longer array
+
+pub fill-start : (w : List ℕ) (x : ℤ) (rest : List ℤ) → take (0 + 1) (x ∷ rest) ≡ products (rows 0 w) x
+unfolding products productsFrom rows
+fill-start w x rest = refl
+
+-- a turn stores the next row's product
+pub fill-more : (w : List ℕ) (x : ℤ) (i : ℕ) (made : List ℤ) (p : ℤ) → i + 1 < length made → take (i + 1) made ≡ products (rows i w) x
+    → p ≡ rowProduct (ready (rows i w)) (take (i + 1) made) (rowAt w (rowLength * i)) → take (i + 1 + 1) (set made (i + 1) p) ≡ products (rows (i + 1) w) x
+fill-more w x i made p h e f =
+    rw (add-one (i + 1), take-suc-set made (i + 1) p h, f, e, add-one i) (sym (products-more i w x))
+
+-- ---- a target of a list
+
+pub every-at : {A : Type 0} (f : A → Bool) (xs : List A) (i : ℕ) (d : A) → i < length xs → T (every f xs) → T (f (getD xs i d))
+every-at f [] i d h t = absurd (not-suc-le-zero h)
+every-at f (x ∷ xs) zero d h t = both-of (f x) (every f xs) t .0
+every-at f (x ∷ xs) (suc i) d h t = every-at f xs i d (le-of-suc-le-suc h) (both-of (f x) (every f xs) t .1)
+
+-- ---- a graph that the check accepts
+
+pub graph-of : (b : ℕ) (ts : List ℤ) (n : ℕ) (w : List ℕ) → checked b ts n w ≡ Accepted → Graph n w
+graph-of b ts n w e =
+    let g = good-of b ts n w e in
+    record {
+      limit = limit b;
+      least = let h = g .admits .bits in omega arith;
+      most = let h = g .admits .bits in omega arith;
+      few = g .room .0;
+      room = g .room .1;
+      sound = g .sound;
+    }
+
+pub all-served : (b : ℕ) (ts : List ℤ) (n : ℕ) (w : List ℕ) → checked b ts n w ≡ Accepted → T (every (served? (rows n w)) ts)
+all-served b ts n w e = in-every (served? (rows n w)) ts (good-of b ts n w e .serves)
+
+-- the targets' products, from the products by index
+pub targets-are : (xs : List Row) (ps : List ℤ) (x : ℤ) (ts : List ℤ) → ps ≡ products xs x → map (targetFrom xs ps) ts ≡ targetProducts xs x ts
+unfolding targetFrom targetProduct targetProducts
+targets-are xs ps x ts e = ap (λ qs. map (targetFrom xs qs) ts) e

@@ -1,0 +1,32 @@
+-- `divided` meets its contract: a quotient is no larger than what is divided. Assumes nothing.
+use Prim.Native.Nat.{_^_}
+use native.Mathlib.Omega.{arith}
+use borrow.Author.Needs.{needs}
+use lib.IntN.{pos}
+use lib.Pow.{pow-pos}
+use lib.Signed.{quotZ}
+use mir.Syntax.{w64}
+use mir.Val.{SFits}
+use mir.ValLaws.{toZ-ofZ}
+use Rattle.numbers.proofs.Integers.{abs-fits, abs-quot}
+use Rattle.products.proofs.divided.Statement.{statement}
+use Rattle.products.proofs.divided.Tie as tie
+
+fit : (c : tie.After-power) → SFits w64 (c .power .result)
+fit c = search needs
+
+quotient-fits : (c : tie.Start) → SFits w64 (quotZ (c .args .z) (pos (2 ^ c .args .r)))
+quotient-fits c = abs-fits _ (omega (arith, abs-quot (c .args .z) (2 ^ c .args .r)))
+
+power-requires : tie.Need-power-requires
+power-requires c κs = search needs
+
+div-result : tie.Need-div-result
+div-result c =
+    rw (toZ-ofZ w64 _ (c .before .fits .z), toZ-ofZ w64 _ (fit c), c .power .ensures) (pow-pos (c .before .args .r), quotient-fits (c .before))
+
+returns : tie.Need-returns
+returns c = rw (toZ-ofZ w64 _ (c .before .fits .z), toZ-ofZ w64 _ (fit c), c .power .ensures) (toZ-ofZ w64 _ (quotient-fits (c .before)))
+
+pub divided-spec : {M : Type 1} → statement M
+divided-spec = tie.close (tie.spec power-requires div-result returns)

@@ -1,0 +1,2 @@
+-- What the code of the products works by.
+pub mod Worked

@@ -1,0 +1,164 @@
+// The products of a checked graph: each row's from its operands' products as its words say, and each target's from its row's, in 64 bits.
+use meaning::ROW_LENGTH;
+use meaning::Row;
+ghost use mathlib.Core.Path.{_≡_};
+ghost use mathlib.Core.List.{map};
+ghost use Prim.Native.Nat.{_+_, _*_, _^_, _≤_};
+ghost use lib.Dec.{T};
+ghost use lib.IntN.{pos, natAbs, _*ℤ_};
+ghost use lib.ListN.{length, take};
+ghost use lib.Signed.{quotZ};
+ghost use Rattle.meaning.specs.declared.Answer.the-variants.{Accepted};
+ghost use Rattle.meaning.specs.Basics.{every, indexFrom, over};
+ghost use Rattle.meaning.specs.Graph.{rowLength, rowAt, rows, ready, served?};
+ghost use Rattle.meaning.specs.Products.{turned?, joined, turnedBy, rowProduct, products, targetProducts};
+ghost use Rattle.meaning.specs.Refusals.{checked};
+ghost use Rattle.products.specs.Worked.{worked, Within, Next, Graph, Made, targetFrom};
+
+// 2^l
+fn power(l: u32) -> i64
+    requires { ⌜ l ≤ 31 ⌝ }
+    ensures { λ r. ⌜ r ≡ pos (2 ^ l) ⌝ }
+{
+    (1u64 << l) as i64
+}
+
+// 2^l × p
+fn shifted(p: i64, l: u32) -> i64
+    requires { ⌜ (l ≤ 31) × (2 ^ l * natAbs p ≤ 2 ^ 62) ⌝ }
+    ensures { λ r. ⌜ r ≡ pos (2 ^ l) *ℤ p ⌝ }
+{
+    power(l) * p
+}
+
+// 2^l1 × p + (-1)^s × 2^l2 × q
+fn join(p: i64, q: i64, x: Row) -> i64
+    requires { ⌜ Within p q x ⌝ }
+    ensures { λ r. ⌜ r ≡ joined p q (x .l1) (x .l2) (x .s) ⌝ }
+{
+    let a = shifted(p, x.l1);
+    let b = shifted(q, x.l2);
+    if x.s == 0 {
+        return a + b;
+    }
+    a - b
+}
+
+// n is negative: n is the row's own, and the data's sign has no part in it.
+fn is_turned(u: u32, v: u32, x: Row) -> bool
+    requires { ⌜ (x .l1 ≤ 30) × (x .l2 ≤ 30) ⌝ }
+    ensures { λ r. ⌜ r ≡ turned? u v (x .l1) (x .l2) (x .s) ⌝ }
+{
+    if x.s == 0 {
+        return false;
+    }
+    (u as u64) << x.l1 < (v as u64) << x.l2
+}
+
+// The difference negated where n is negative.
+fn turn(negative: bool, z: i64) -> i64
+    requires { ⌜ natAbs z ≤ 2 ^ 62 ⌝ }
+    ensures { λ r. ⌜ r ≡ turnedBy negative z ⌝ }
+{
+    if negative {
+        return -z;
+    }
+    z
+}
+
+// z / 2^r, rounded towards 0; a row's is exact.
+fn divided(z: i64, r: u32) -> i64
+    requires { ⌜ (r ≤ 31) × (natAbs z ≤ 2 ^ 62) ⌝ }
+    ensures { λ q. ⌜ q ≡ quotZ z (pos (2 ^ r)) ⌝ }
+{
+    z / power(r)
+}
+
+// A row's product, from its operands' values and products.
+fn row_product(u: u32, v: u32, p: i64, q: i64, x: Row) -> i64
+    requires { ⌜ Within p q x ⌝ }
+    ensures { λ r. ⌜ r ≡ worked u v p q x ⌝ }
+{
+    let n = join(p, q, x);
+    let negative = is_turned(u, v, x);
+    let turned = turn(negative, n);
+    divided(turned, x.r)
+}
+
+// The product of the row after i rows, from the products of the indices before it.
+fn next_product(words: &[u32], i: usize, before: &[i64]) -> i64
+    requires { ⌜ Next (now words) i (now before) ⌝ }
+    ensures { λ r. ⌜ r ≡ rowProduct (ready (rows i (now (words .entry)))) (now (before .entry)) (rowAt (now (words .entry)) (rowLength * i)) ⌝ }
+{
+    let x = rows::row_at(words, ROW_LENGTH * i);
+    let first = x.u as usize;
+    let second = x.v as usize;
+    let u = rows::value_at(words, i, first);
+    let v = rows::value_at(words, i, second);
+    let p = before[first];
+    let q = before[second];
+    row_product(u, v, p, q, x)
+}
+
+// The products by index; the input's is x.
+fn products_of(n: usize, words: &[u32], x: i32) -> [i64; 129]
+    requires { ⌜ Graph n (now words) ⌝ }
+    ensures { λ r. ⌜ take (n + 1) r ≡ products (rows n (now (words .entry))) x ⌝ }
+{
+    let mut made = [0i64; 129];
+    made[0] = x as i64;
+    let mut i = 0;
+    while i < n {
+        made[i + 1] = next_product(words, i, &made[..i + 1]);
+        i += 1;
+    }
+    made
+}
+
+// The lowest index that has a value; 0 where none has.
+fn lowest(n: usize, words: &[u32], value: u32) -> usize
+    requires { ⌜ (n ≤ 128) × (rowLength * n ≤ length (now words)) ⌝ }
+    ensures { λ r. ⌜ r ≡ indexFrom 0 (ready (rows n (now (words .entry)))) value ⌝ }
+{
+    let mut index = 0;
+    while index <= n {
+        if rows::value_at(words, n, index) == value {
+            return index;
+        }
+        index += 1;
+    }
+    0
+}
+
+// A target's product, from the products by index: sign × 2^shift × its index's.
+fn target_product(n: usize, words: &[u32], made: &[i64], t: i32) -> i64
+    requires { ⌜ Made n (now words) (now made) × T (served? (rows n (now words)) t) ⌝ }
+    ensures { λ r. ⌜ r ≡ targetFrom (rows n (now (words .entry))) (now (made .entry)) t ⌝ }
+{
+    let parts = constants::take_apart(t);
+    let index = lowest(n, words, parts.odd);
+    let p = made[index];
+    (parts.sign as i64) * shifted(p, parts.shift)
+}
+
+// The targets' products, from the front of a lent slice.
+fn write_targets(ts: &[i32], n: usize, words: &[u32], made: &[i64], out: &mut [i64])
+    requires { ⌜ (length (now ts) ≤ length (now out)) × Made n (now words) (now made) × T (every (served? (rows n (now words))) (now ts)) ⌝ }
+    ensures { λ _. ⌜ now (out .exit) ≡ over (map (targetFrom (rows n (now (words .entry))) (now (made .entry))) (now (ts .entry))) (now (out .entry)) ⌝ }
+{
+    let mut k = 0;
+    while k < ts.len() {
+        let t = ts[k];
+        out[k] = target_product(n, words, made, t);
+        k += 1;
+    }
+}
+
+// The targets' products of a graph that the check accepts under the bit limit b, written from the front of `out`.
+pub fn work(b: u32, ts: &[i32], n: usize, words: &[u32], x: i32, out: &mut [i64])
+    requires { ⌜ (checked b (now ts) n (now words) ≡ Accepted) × (length (now ts) ≤ length (now out)) ⌝ }
+    ensures { λ _. ⌜ now (out .exit) ≡ over (targetProducts (rows n (now (words .entry))) x (now (ts .entry))) (now (out .entry)) ⌝ }
+{
+    let made = products_of(n, words, x);
+    write_targets(ts, n, words, &made[..n + 1], out);
+}
