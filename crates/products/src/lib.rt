@@ -1,5 +1,7 @@
 // The products of a checked graph: each row's from its operands' products as its words say, and each target's from its row's, in 64 bits.
+use meaning::Answer;
 use meaning::ROW_LENGTH;
+use meaning::Refusal;
 use meaning::Row;
 ghost use mathlib.Core.Path.{_≡_};
 ghost use mathlib.Core.List.{map};
@@ -12,7 +14,7 @@ ghost use Rattle.meaning.specs.declared.Answer.the-variants.{Accepted};
 ghost use Rattle.meaning.specs.Basics.{every, indexFrom, over};
 ghost use Rattle.meaning.specs.Graph.{rowLength, rowAt, rows, ready, served?};
 ghost use Rattle.meaning.specs.Products.{turned?, joined, turnedBy, rowProduct, products, targetProducts};
-ghost use Rattle.meaning.specs.Refusals.{checked};
+ghost use Rattle.meaning.specs.Refusals.{Done, checked, multiplied, productsWritten};
 ghost use Rattle.products.specs.Worked.{worked, Within, Next, Graph, Made, targetFrom};
 
 // 2^l
@@ -155,10 +157,28 @@ fn write_targets(ts: &[i32], n: usize, words: &[u32], made: &[i64], out: &mut [i
 }
 
 // The targets' products of a graph that the check accepts under the bit limit b, written from the front of `out`.
-pub fn work(b: u32, ts: &[i32], n: usize, words: &[u32], x: i32, out: &mut [i64])
+fn work(b: u32, ts: &[i32], n: usize, words: &[u32], x: i32, out: &mut [i64])
     requires { ⌜ (checked b (now ts) n (now words) ≡ Accepted) × (length (now ts) ≤ length (now out)) ⌝ }
     ensures { λ _. ⌜ now (out .exit) ≡ over (targetProducts (rows n (now (words .entry))) x (now (ts .entry))) (now (out .entry)) ⌝ }
 {
     let made = products_of(n, words, x);
     write_targets(ts, n, words, &made[..n + 1], out);
+}
+
+// A product for each target. Refusals as check, then 4.
+pub fn multiply(b: u32, ts: &[i32], n: usize, words: &[u32], x: i32, out: &mut [i64]) -> Answer
+    ensures { λ r. ⌜
+        Done (multiplied b (now (ts .entry)) n (now (words .entry)) (length (now (out .entry))))
+        (productsWritten b (now (ts .entry)) n (now (words .entry)) x (length (now (out .entry)))) r (now (out .entry)) (now (out .exit))
+        ⌝ }
+{
+    let checked = graph::check(b, ts, n, words);
+    let Answer::Accepted = checked else {
+        return checked;
+    };
+    if out.len() < ts.len() {
+        return Answer::Refused(Refusal::Buffer);
+    }
+    work(b, ts, n, words, x, out);
+    Answer::Accepted
 }
