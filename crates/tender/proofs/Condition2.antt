@@ -1,26 +1,32 @@
 -- Condition 2 holds. Assumes nothing.
 use mathlib.Core.Path.{_≡_, refl, sym, ap, ap₂, _∙_, subst, subst₂, subst⁻¹}
 use mathlib.Core.Bool.{Bool, true, false, _||_}
-use mathlib.Core.List.{List, [], _∷_, _++_, map, append-assoc, append-nil, List·Memᴰ, List·Memᴰ·head, List·Memᴰ·tail, List·Memᴰ·not-nil, List·Memᴰ·cases-cons}
+use mathlib.Core.List.{List, [], _∷_, _++_, map, append-assoc, append-nil, List·Memᴰ, List·Memᴰ·head, List·Memᴰ·tail, List·Permᴰ}
 use mathlib.Core.Logic.{_⊎_, inl, inr, ⊎-elim, _↔_}
 use Prim.Native.Nat.{ℕ, zero, suc, _+_, _-_, _*_, _/_, _%_, _^_, _≤_, _<_, min}
 use native.Mathlib.Omega.{arith}
 use lib.Dec.{T, leb, eqb, leb→le, le→leb, eqb→eq, eqb-refl}
-use lib.IntN.{ℤ, pos, negsuc, natAbs}
+use lib.IntN.{ℤ, _*ℤ_}
 use lib.ListN.{length, getD, List·getD-append, length-append}
 use Rattle.meaning.specs.declared.Answer.the-variants.{Accepted}
 use Rattle.meaning.specs.declared.Row.{Row}
-use Rattle.meaning.specs.Basics.{any, has}
+use Rattle.meaning.specs.Basics.{has, upFrom}
 use Rattle.meaning.specs.Limits.{limit}
 use Rattle.meaning.specs.Constants.{oddOf}
 use Rattle.meaning.specs.Operation.{whole, size, Valid}
 use Rattle.meaning.specs.Graph.{rowLength, rowAt, rows, values, ready, Fits, Sound, served?}
-use Rattle.meaning.specs.Refusals.{mostRows, admitted, checked}
-use Rattle.meaning.proofs.Tests.{any-in, in-any, either-of, of-left, of-right}
+use Rattle.meaning.specs.Products.{targetProduct, targetProducts}
+use Rattle.meaning.specs.Widths.{ranking, InOrder}
+use Rattle.meaning.specs.Refusals.{mostRows, checkOrder, productsOrder, admitted, checked, sized, multiplied, productsWritten, given}
+use Rattle.meaning.proofs.Tests.{any-in, in-any, either-of, of-left, of-right, in-every}
 use Rattle.meaning.proofs.Operations.{size-is, Exact, exact-of, outcome-of}
-use Rattle.meaning.proofs.Graphs.{length-rows}
-use Rattle.meaning.proofs.Checked.{admitted-of, good-of, of-good}
-use Rattle.tender.specs.Condition2.{AOperation, row, valueAt, ValidRow, EveryRowValid, EveryConstantMade}
+use Rattle.meaning.proofs.Graphs.{length-rows, sound-odd}
+use Rattle.meaning.proofs.Stages.{first-accepts, all-accept}
+use Rattle.meaning.proofs.Checked.{admitted-of, good-of, of-good, sized-of}
+use Rattle.meaning.proofs.Products.{products-are, target-product, target-products}
+use Rattle.meaning.proofs.Fewest.{row-fewest, shifted-fewest, output-fewest}
+use Rattle.meaning.proofs.Ranking.{ranking-permutes, ranking-ordered}
+use Rattle.tender.specs.Condition2.{AOperation, row, valueAt, ValidRow, EveryRowValid, EveryConstantMade, widthOf, Condition2}
 
 -- ---- the operation
 
@@ -155,3 +161,52 @@ exactly b ts n w a m l = (there, back)
           sound = of-rows b (rows n w) (p .0);
           serves = λ t i. of-made (rows n w) t (p .1 t i);
         })
+
+-- ---- products
+
+gives : (b : ℕ) (ts : List ℤ) (n : ℕ) (w : List ℕ) (x t : ℤ) → checked b ts n w ≡ Accepted → List·Memᴰ t ts → targetProduct (rows n w) x t ≡ t *ℤ x
+gives b ts n w x t e i = let g = good-of b ts n w e in target-product (limit b) (rows n w) x t (g .sound) (g .serves t i)
+
+-- acceptance with a buffer is acceptance by the check
+multiplied-checked : (b : ℕ) (ts : List ℤ) (n : ℕ) (w : List ℕ) (room : ℕ) → multiplied b ts n w room ≡ Accepted → checked b ts n w ≡ Accepted
+unfolding multiplied checked
+multiplied-checked b ts n w room e =
+    let (s1, (s2, (s3, (s5, (s6, (s7, _)))))) = first-accepts (productsOrder b ts n w room) e in
+    all-accept (checkOrder b ts n w) (s1, (s2, (s3, (s5, (s6, (s7, tt))))))
+
+writes : (b : ℕ) (ts : List ℤ) (n : ℕ) (w : List ℕ) (x : ℤ) (room : ℕ) → multiplied b ts n w room ≡ Accepted → productsWritten b ts n w x room ≡ map (λ t. t *ℤ x) ts
+unfolding productsWritten
+writes b ts n w x room e =
+    let g = good-of b ts n w (multiplied-checked b ts n w room e) in
+    ap (λ a. given a (targetProducts (rows n w) x ts)) e ∙ target-products (limit b) (rows n w) x ts (g .sound) (in-every (served? (rows n w)) ts (g .serves))
+
+-- ---- widths
+
+positive : (v : ℕ) → v % 2 ≡ 1 → 1 ≤ v
+positive v o = omega arith
+
+row-value : (b : ℕ) (ts : List ℤ) (n : ℕ) (w : List ℕ) (input : ℕ) (y : Row) → sized b ts n w input ≡ Accepted → List·Memᴰ y (rows n w) → (2 ≤ input) × (1 ≤ y .value)
+row-value b ts n w input y e i =
+    let g = sized-of b ts n w input e in
+    (g .width .0, positive (y .value) (sound-odd (limit b) (1 ∷ []) (rows n w) (g .good .sound) y i .0))
+
+-- ---- the ranking
+
+head-widest : (f : ℕ → ℕ) (first : ℕ) (rest : List ℕ) → InOrder f (first ∷ rest) → (k : ℕ) → List·Memᴰ k rest → f k ≤ f first
+unfolding InOrder
+head-widest f first rest o k i = ⊎-elim (λ h. omega arith) (λ h. omega arith) (o .0 k i)
+
+pub condition2 : Condition2
+condition2 =
+    record {
+      accepted-exactly = exactly;
+      gives-products = gives;
+      writes-products = writes;
+      row-products = λ b ts n w x e. products-are (limit b) (rows n w) x (good-of b ts n w e .sound);
+      row-widths = λ b ts n w input y e i. let (h, p) = row-value b ts n w input y e i in row-fewest input (y .value) h p;
+      widths-before-shift = λ b ts n w input y e i. let (h, p) = row-value b ts n w input y e i in shifted-fewest input (y .value) (y .r) h p;
+      output-widths = λ b ts n w input t e h. output-fewest input t (sized-of b ts n w input e .width .0) h;
+      ranking-permutes = λ n w input. subst (λ k. List·Permᴰ (ranking input (rows n w)) (upFrom 1 k)) (length-rows n w) (ranking-permutes input (rows n w));
+      ranking-ordered = λ n w input. ranking-ordered input (rows n w);
+      widest-first = λ n w input first rest e. head-widest (widthOf input (rows n w)) first rest (subst (InOrder (widthOf input (rows n w))) e (ranking-ordered input (rows n w)));
+    }
