@@ -1,6 +1,7 @@
 // Answers cases for the library's calls, so that another program's answers can be held to them.
 // A case is two little-endian 32-bit words, its kind and the number n of its words, and then the n words.
 // Each answer is a line of decimal numbers.
+mod graphs;
 mod input;
 mod leaves;
 mod print;
@@ -26,12 +27,17 @@ fn leaf(kind: u32, words: &[u32]) {
     }
 }
 
-fn answer(kind: u32, words: &[u32], targets: &mut [i32]) {
+// Kinds 1 to 6 are the leaves, 7 to 10 the calls on a graph.
+fn answer(kind: u32, words: &[u32], targets: &mut [i32], wide: &mut [i64], narrow: &mut [u32]) {
     if kind == 2 {
         leaves::admit(words, targets);
         return;
     }
-    leaf(kind, words);
+    if kind < 7 {
+        leaf(kind, words);
+        return;
+    }
+    graphs::answer(kind, words, targets, wide, narrow);
 }
 
 // Reads a whole part of the input, and says whether it was there.
@@ -44,7 +50,13 @@ fn read(bytes: &mut [u8], n: usize) -> bool {
 }
 
 // Answers one case, and says whether there was one.
-fn one(bytes: &mut [u8], words: &mut [u32], targets: &mut [i32]) -> bool {
+fn one(
+    bytes: &mut [u8],
+    words: &mut [u32],
+    targets: &mut [i32],
+    wide: &mut [i64],
+    narrow: &mut [u32],
+) -> bool {
     if !read(bytes, 8) {
         return false;
     }
@@ -57,15 +69,21 @@ fn one(bytes: &mut [u8], words: &mut [u32], targets: &mut [i32]) -> bool {
         return false;
     }
     input::words(bytes, words);
-    answer(kind, &words[..n], targets);
+    answer(kind, &words[..n], targets, wide, narrow);
     print::end();
     true
 }
 
 // A proved loop has to end, so it counts its turns down from a number that no run uses up.
-fn run(bytes: &mut [u8], words: &mut [u32], targets: &mut [i32]) {
+fn run(
+    bytes: &mut [u8],
+    words: &mut [u32],
+    targets: &mut [i32],
+    wide: &mut [i64],
+    narrow: &mut [u32],
+) {
     let mut turns = u64::MAX;
-    while turns > 0 && one(bytes, words, targets) {
+    while turns > 0 && one(bytes, words, targets, wide, narrow) {
         turns -= 1;
     }
 }
@@ -74,5 +92,7 @@ fn main() {
     let mut bytes = [0u8; 4800];
     let mut words = [0u32; 1200];
     let mut targets = [0i32; 1200];
-    run(&mut bytes, &mut words, &mut targets);
+    let mut wide = [0i64; 64];
+    let mut narrow = [0u32; 256];
+    run(&mut bytes, &mut words, &mut targets, &mut wide, &mut narrow);
 }

@@ -43,3 +43,19 @@ pub fn answer(a: Answer) {
     first(a.number());
     next(a.place());
 }
+
+pub fn all(words: &[u32]) {
+    let mut k = 0;
+    while k < words.len() {
+        next(words[k]);
+        k += 1;
+    }
+}
+
+pub fn all_signed(words: &[i64]) {
+    let mut k = 0;
+    while k < words.len() {
+        next_signed(words[k]);
+        k += 1;
+    }
+}

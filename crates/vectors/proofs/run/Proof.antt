@@ -6,10 +6,12 @@ use Rattle.vectors.proofs.run.Statement.{statement}
 use Rattle.vectors.proofs.run.Tie as tie
 
 abbrev Inv-loop : tie.InvT-loop
-Inv-loop bytes₀ words₀ targets₀ turns₀ bytes words targets turns = (length bytes ≡ length bytes₀) × (length words ≡ length words₀) × (length targets ≡ length targets₀)
+Inv-loop bytes₀ words₀ targets₀ wide₀ narrow₀ turns₀ bytes words targets wide narrow turns =
+    (length bytes ≡ length bytes₀) × (length words ≡ length words₀) × (length targets ≡ length targets₀) × (length wide ≡ length wide₀)
+    × (length narrow ≡ length narrow₀)
 
 abbrev μ-loop : tie.MeasureT-loop
-μ-loop bytes₀ words₀ targets₀ turns₀ bytes words targets turns = turns
+μ-loop bytes₀ words₀ targets₀ wide₀ narrow₀ turns₀ bytes words targets wide narrow turns = turns
 
 loop-holds : tie.Need-loop-holds Inv-loop μ-loop
 loop-holds c = search needs
@@ -35,17 +37,29 @@ same-length-2 c = search needs
 same-length-3 : tie.Need-same-length-3 Inv-loop μ-loop
 same-length-3 c = search needs
 
-returns : tie.Need-returns Inv-loop μ-loop
-returns c = search needs
-
 same-length-4 : tie.Need-same-length-4 Inv-loop μ-loop
 same-length-4 c = search needs
 
 same-length-5 : tie.Need-same-length-5 Inv-loop μ-loop
 same-length-5 c = search needs
 
+returns : tie.Need-returns Inv-loop μ-loop
+returns c = search needs
+
 same-length-6 : tie.Need-same-length-6 Inv-loop μ-loop
 same-length-6 c = search needs
+
+same-length-7 : tie.Need-same-length-7 Inv-loop μ-loop
+same-length-7 c = search needs
+
+same-length-8 : tie.Need-same-length-8 Inv-loop μ-loop
+same-length-8 c = search needs
+
+same-length-9 : tie.Need-same-length-9 Inv-loop μ-loop
+same-length-9 c = search needs
+
+same-length-10 : tie.Need-same-length-10 Inv-loop μ-loop
+same-length-10 c = search needs
 
 returns-2 : tie.Need-returns-2 Inv-loop μ-loop
 returns-2 c = search needs
@@ -64,8 +78,12 @@ run-spec =
     same-length
     same-length-2
     same-length-3
-    returns
     same-length-4
     same-length-5
+    returns
     same-length-6
+    same-length-7
+    same-length-8
+    same-length-9
+    same-length-10
     returns-2)
