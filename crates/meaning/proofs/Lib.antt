@@ -14,3 +14,4 @@ pub mod Walks
 pub mod Over
 pub mod Checked
 pub mod Widths
+pub mod Placing
