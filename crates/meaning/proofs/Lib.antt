@@ -17,3 +17,4 @@ pub mod Widths
 pub mod Ranking
 pub mod Fewest
 pub mod Products
+pub mod Placing

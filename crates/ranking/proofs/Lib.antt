@@ -1,0 +1,2 @@
+-- The laws that the code's proofs share.
+pub mod Laws

@@ -1,0 +1,2 @@
+-- What the steps of the ranking do to a slice.
+pub mod Insertion
