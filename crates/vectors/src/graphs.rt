@@ -18,6 +18,13 @@ fn widths_case(b: u32, ts: &[i32], n: usize, rows: &[u32], input: u32, out: &mut
     print::all(out);
 }
 
+fn ranking_case(b: u32, ts: &[i32], n: usize, rows: &[u32], input: u32, out: &mut [u32]) {
+    input::fill(out);
+    let answer = ranking::rank(b, ts, n, rows, input, out);
+    print::answer(answer);
+    print::all(out);
+}
+
 // The head is b, the number of targets, the number of rows, and for all but check x or the input width, and room.
 fn graph_case(
     kind: u32,
@@ -45,7 +52,12 @@ fn graph_case(
     if narrow.len() < room {
         return;
     }
-    widths_case(b, ts, n, rows, input::at(head, 3), &mut narrow[..room]);
+    let width = input::at(head, 3);
+    if kind == 9 {
+        widths_case(b, ts, n, rows, width, &mut narrow[..room]);
+        return;
+    }
+    ranking_case(b, ts, n, rows, width, &mut narrow[..room]);
 }
 
 fn head_length(kind: u32) -> usize

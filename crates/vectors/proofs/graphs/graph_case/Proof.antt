@@ -1,7 +1,5 @@
 -- `graph_case` is safe: the buffers that it lends are within the slices. Assumes nothing.
 use mathlib.Core.Path.{_≡_, sym}
-use native.Mathlib.Omega.{arith}
-use lib.ListN.{length}
 use lib.Seq.{length-take-le}
 use borrow.Author.Needs.{needs}
 use Rattle.vectors.proofs.graphs.graph_case.Statement.{statement}
@@ -65,7 +63,7 @@ slice-relend-prefix-widths-case : tie.Need-slice-relend-prefix-widths-case
 slice-relend-prefix-widths-case c = search needs
 
 slice-aggregate-widths-case : tie.Need-slice-aggregate-widths-case
-slice-aggregate-widths-case c = sym (length-take-le _ _ (c .before .before .if4 .left))
+slice-aggregate-widths-case c = sym (length-take-le _ _ (c .before .before .before .if4 .left))
 
 widths-case-requires : tie.Need-widths-case-requires
 widths-case-requires c κs = search needs
@@ -75,6 +73,21 @@ same-length-2 c = search needs
 
 returns-5 : tie.Need-returns-5
 returns-5 c = search needs
+
+slice-relend-prefix-ranking-case : tie.Need-slice-relend-prefix-ranking-case
+slice-relend-prefix-ranking-case c = search needs
+
+slice-aggregate-ranking-case : tie.Need-slice-aggregate-ranking-case
+slice-aggregate-ranking-case c = sym (length-take-le _ _ (c .before .before .before .if4 .left))
+
+ranking-case-requires : tie.Need-ranking-case-requires
+ranking-case-requires c κs = search needs
+
+same-length-3 : tie.Need-same-length-3
+same-length-3 c = search needs
+
+returns-6 : tie.Need-returns-6
+returns-6 c = search needs
 
 pub graph-case-spec : {M : Type 1} → statement M
 graph-case-spec =
@@ -102,4 +115,9 @@ graph-case-spec =
     slice-aggregate-widths-case
     widths-case-requires
     same-length-2
-    returns-5)
+    returns-5
+    slice-relend-prefix-ranking-case
+    slice-aggregate-ranking-case
+    ranking-case-requires
+    same-length-3
+    returns-6)
