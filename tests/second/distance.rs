@@ -23,7 +23,7 @@ pub fn reached(b: u32, ready: &[u32]) -> Vec<bool> {
 }
 
 /// Whether one operation of u and v, in this order, gives the target.
-fn gives(b: u32, shapes: &[(u32, u32, u32)], u: u32, v: u32, target: u32) -> bool {
+pub fn gives(b: u32, shapes: &[(u32, u32, u32)], u: u32, v: u32, target: u32) -> bool {
     let value = |&(l1, l2, s): &(u32, u32, u32)| operate(b, u, v, l1, l2, s).map(|o| o.value);
     shapes.iter().any(|shape| value(shape) == Some(target))
 }

@@ -8,18 +8,19 @@ use crate::graph::{check, flatten, output, Output, Row, MAX_ROWS, ROW};
 use crate::operation::{agrees, operate, shapes, Outcome};
 use crate::products::{products, row_products};
 use crate::rng::Rng;
+use crate::selftest_cases::MORE;
 use crate::widths::{bits, output_width, ranking, row_width, widths, Job};
 use std::panic::{catch_unwind, AssertUnwindSafe};
 
 const WORDS: usize = MAX_ROWS * ROW;
 
-struct Tally {
+pub struct Tally {
     passed: u32,
     failed: u32,
 }
 
 impl Tally {
-    fn that(&mut self, name: &str, holds: bool) {
+    pub fn that(&mut self, name: &str, holds: bool) {
         if holds {
             self.passed += 1;
         } else {
@@ -28,7 +29,7 @@ impl Tally {
         }
     }
 
-    fn same<T: PartialEq + std::fmt::Debug>(&mut self, name: &str, got: T, expected: T) {
+    pub fn same<T: PartialEq + std::fmt::Debug>(&mut self, name: &str, got: T, expected: T) {
         let holds = got == expected;
         self.that(name, holds);
         if !holds {
@@ -37,7 +38,7 @@ impl Tally {
     }
 }
 
-fn rows(b: u32, targets: &[i32]) -> Vec<Row> {
+pub fn rows(b: u32, targets: &[i32]) -> Vec<Row> {
     generate(b, targets, WORDS).expect("not refused")
 }
 
@@ -166,9 +167,10 @@ fn canonic_forms(t: &mut Tally) {
 }
 
 /// The fewest two's complement bits that hold every one of the numbers.
-fn fewest_bits(numbers: impl Fn() -> Vec<i64>) -> u32 {
-    let holds = |k: u32| numbers().iter().all(|&y| -(1i64 << (k - 1)) <= y && y < 1i64 << (k - 1));
-    (1..=40).find(|&k| holds(k)).expect("at most 40 bits")
+pub fn fewest_bits(numbers: impl Fn() -> Vec<i64>) -> u32 {
+    let within = |k: u32, y: i128| -(1i128 << (k - 1)) <= y && y < 1i128 << (k - 1);
+    let holds = |k: u32| numbers().iter().all(|&y| within(k, y as i128));
+    (1..=64).find(|&k| holds(k)).expect("at most 64 bits")
 }
 
 fn fewest_widths(t: &mut Tally) {
@@ -256,7 +258,7 @@ fn distances_by_sets(t: &mut Tally) {
     }
 }
 
-fn sound(b: u32, targets: &[i32]) -> bool {
+pub fn sound(b: u32, targets: &[i32]) -> bool {
     let drawn = rows(b, targets);
     let words = flatten(&drawn);
     let times = |x: i32| targets.iter().map(|&c| c as i64 * x as i64).collect();
@@ -326,7 +328,7 @@ const PARTS: [(&str, fn(&mut Tally)); 14] = [
 /// Whether every check passed; a panic is one failure, so that the last line always comes.
 pub fn run() -> bool {
     let mut tally = Tally { passed: 0, failed: 0 };
-    for (name, part) in PARTS {
+    for (name, part) in PARTS.into_iter().chain(MORE) {
         let ended = catch_unwind(AssertUnwindSafe(|| part(&mut tally))).is_ok();
         if !ended {
             tally.that(&format!("{name}: panicked"), false);

@@ -1,0 +1,167 @@
+//! The two files as they grow. Each kind has one method that writes a case and its answer.
+
+use crate::constants::{admit, take_apart, Refusal};
+use crate::digits::{nonzeros, prefixes};
+use crate::distance::distance;
+use crate::generator::generate;
+use crate::graph::{check, flatten, row_valid, ROW};
+use crate::operation::operate;
+use crate::products::products;
+use crate::widths::{bits, ranking, widths, Job};
+
+pub const MOST_WORDS: usize = 1200;
+
+/// What every call on a graph is given; `rows` may be more than the words hold.
+#[derive(Clone)]
+pub struct Call {
+    pub b: u32,
+    pub targets: Vec<i32>,
+    pub rows: u32,
+    pub words: Vec<u32>,
+}
+
+impl Call {
+    pub fn job(&self) -> Job<'_> {
+        Job { b: self.b, targets: &self.targets, row_count: self.rows as usize, words: &self.words }
+    }
+
+    pub fn check(&self) -> Result<(), Refusal> {
+        check(self.b, &self.targets, self.rows as usize, &self.words)
+    }
+
+    pub fn products(&self, x: i32, room: u32) -> Result<Vec<i64>, Refusal> {
+        products(self.b, &self.targets, self.rows as usize, &self.words, x, room as usize)
+    }
+
+    fn case(&self, more: &[u32]) -> Vec<u32> {
+        let mut list = vec![self.b, self.targets.len() as u32, self.rows];
+        list.extend(more);
+        list.extend(self.targets.iter().map(|&t| t as u32));
+        list.extend(&self.words);
+        list
+    }
+}
+
+/// Number, place, and what a lent buffer holds after a call that was to fill it from the front.
+pub fn lent(room: u32, result: Result<Vec<i64>, Refusal>) -> String {
+    let mut buffer: Vec<i64> = (0..room as i64).map(|i| 7000 + i).collect();
+    let (number, place) = match result {
+        Ok(answer) => {
+            buffer[..answer.len()].copy_from_slice(&answer);
+            (0, 0)
+        }
+        Err(refusal) => refusal,
+    };
+    let contents: String = buffer.iter().map(|word| format!(" {word}")).collect();
+    format!("{number} {place}{contents}")
+}
+
+fn signed(list: Vec<u32>) -> Vec<i64> {
+    list.into_iter().map(i64::from).collect()
+}
+
+pub struct Book {
+    pub cases: Vec<u8>,
+    pub expected: String,
+    /// In the order of first use.
+    pub classes: Vec<(String, u32)>,
+}
+
+impl Book {
+    pub fn new() -> Book {
+        Book { cases: Vec::new(), expected: String::new(), classes: Vec::new() }
+    }
+
+    fn push(&mut self, class: &str, kind: u32, words: &[u32], answer: String) {
+        assert!(words.len() <= MOST_WORDS, "{class}: {} words", words.len());
+        for word in [kind, words.len() as u32].iter().chain(words) {
+            self.cases.extend(word.to_le_bytes());
+        }
+        self.expected += &answer;
+        self.expected.push('\n');
+        match self.classes.iter_mut().find(|c| c.0 == class) {
+            Some(c) => c.1 += 1,
+            None => self.classes.push((class.to_string(), 1)),
+        }
+    }
+
+    pub fn apart(&mut self, class: &str, t: i32) {
+        let a = take_apart(t);
+        self.push(class, 1, &[t as u32], format!("{} {} {}", a.sign, a.shift, a.odd));
+    }
+
+    pub fn admit(&mut self, class: &str, b: u32, targets: &[i32]) {
+        let mut words = vec![b];
+        words.extend(targets.iter().map(|&t| t as u32));
+        let (number, place) = admit(b, targets).err().unwrap_or((0, 0));
+        self.push(class, 2, &words, format!("{number} {place}"));
+    }
+
+    pub fn digits(&mut self, class: &str, c: u32) {
+        let list = prefixes(c);
+        let mut answer = format!("{} {}", nonzeros(c), list.len());
+        for p in list {
+            answer += &format!(" {} {} {} {}", p.before, p.gap, p.s, p.value);
+        }
+        self.push(class, 3, &[c], answer);
+    }
+
+    pub fn operation(&mut self, class: &str, words: [u32; 6]) {
+        let [b, u, v, l1, l2, s] = words;
+        let answer = match operate(b, u, v, l1, l2, s) {
+            Some(o) => format!("1 {} {} {}", o.n, o.r, o.value),
+            None => "0".to_string(),
+        };
+        self.push(class, 4, &words, answer);
+    }
+
+    pub fn row(&mut self, class: &str, b: u32, i: u32, words: &[u32]) {
+        let answer = row_valid(b, i as u64, words) as u32;
+        self.push(class, 5, &[&[b, i], words].concat(), answer.to_string());
+    }
+
+    pub fn bits(&mut self, class: &str, value: u32) {
+        self.push(class, 6, &[value], bits(value).to_string());
+    }
+
+    pub fn check(&mut self, class: &str, call: &Call) {
+        let (number, place) = call.check().err().unwrap_or((0, 0));
+        self.push(class, 7, &call.case(&[]), format!("{number} {place}"));
+    }
+
+    pub fn products(&mut self, class: &str, call: &Call, x: i32, room: u32) {
+        let answer = lent(room, call.products(x, room));
+        self.push(class, 8, &call.case(&[x as u32, room]), answer);
+    }
+
+    pub fn widths(&mut self, class: &str, call: &Call, input: u32, room: u32) {
+        let answer = lent(room, widths(call.job(), input, room as usize).map(signed));
+        self.push(class, 9, &call.case(&[input, room]), answer);
+    }
+
+    pub fn ranking(&mut self, class: &str, call: &Call, input: u32, room: u32) {
+        let answer = lent(room, ranking(call.job(), input, room as usize).map(signed));
+        self.push(class, 10, &call.case(&[input, room]), answer);
+    }
+
+    pub fn distance(&mut self, class: &str, b: u32, target: u32, ready: &[u32]) {
+        let answer = match distance(b, ready, target) {
+            Ok(d) => format!("0 0 {d}"),
+            Err((number, place)) => format!("{number} {place}"),
+        };
+        self.push(class, 11, &[&[b, target], ready].concat(), answer);
+    }
+
+    pub fn generate(&mut self, class: &str, b: u32, room: u32, targets: &[i32]) {
+        let (number, place, words) = match generate(b, targets, room as usize) {
+            Ok(rows) => (0, 0, flatten(&rows)),
+            Err((number, place)) => (number, place, Vec::new()),
+        };
+        let rows = words.len() / ROW;
+        let written: String = words.iter().map(|word| format!(" {word}")).collect();
+        let untouched = room as usize - words.len();
+        let mut case = vec![b, room];
+        case.extend(targets.iter().map(|&t| t as u32));
+        self.push(class, 12, &case, format!("{number} {place} {rows}{written} {untouched}"));
+    }
+}
