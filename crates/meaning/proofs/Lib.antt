@@ -17,3 +17,5 @@ pub mod Widths
 pub mod Ranking
 pub mod Fewest
 pub mod Products
+pub mod Reach
+pub mod Choices
