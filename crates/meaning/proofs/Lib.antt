@@ -19,3 +19,7 @@ pub mod Fewest
 pub mod Products
 pub mod Reach
 pub mod Choices
+pub mod Wanted
+pub mod Rules
+pub mod Turn
+pub mod Remaining
