@@ -23,3 +23,6 @@ pub mod Wanted
 pub mod Rules
 pub mod Turn
 pub mod Remaining
+pub mod Drawn
+pub mod Shortest
+pub mod Distances

@@ -3,12 +3,14 @@ use mathlib.Core.Path.{_≡_, refl, subst}
 use mathlib.Core.Bool.{Bool, _||_}
 use mathlib.Core.List.{List, [], _∷_, map, List·Memᴰ, List·Memᴰ·head, List·Memᴰ·tail, Memᴰ·append-left, Memᴰ·append-right, Memᴰ·map}
 use mathlib.Core.Logic.{⊎-elim, _↔_}
-use Prim.Native.Nat.{ℕ, zero, suc, _+_, _≤_, min}
+use Prim.Native.Nat.{ℕ, zero, suc, _+_, _-_, _*_, _/_, _^_, _≤_, _<_, min}
+use native.Mathlib.Nat.{pow-succ'}
 use native.Mathlib.Omega.{arith}
 use lib.Dec.{T, eqb, eqb→eq, eqb-refl}
+use lib.Pow.{pow-pos}
 use Rattle.meaning.specs.Basics.{any, has, upFrom, zeros}
 use Rattle.meaning.specs.Operation.{size, Valid, Gives}
-use Rattle.meaning.specs.Distance.{gives?, shiftPairs, oneOp?, reach?}
+use Rattle.meaning.specs.Distance.{gives?, shiftPairs, oneOp?, reach?, candidates}
 use Rattle.meaning.proofs.Tests.{any-in, in-any, in-up, either-of, of-left, of-right, bool-ext}
 use Rattle.meaning.proofs.Operations.{valid-of-test, test-of-valid, exact-of}
 use Rattle.meaning.proofs.Inverse.{Odd}
@@ -39,6 +41,17 @@ pub sign-in : (s : ℕ) → s ≤ 1 → List·Memᴰ s (0 ∷ 1 ∷ [])
 sign-in zero h = List·Memᴰ·head refl
 sign-in (suc zero) h = List·Memᴰ·tail (List·Memᴰ·head refl)
 sign-in (suc (suc s)) h = absurd (omega arith)
+
+-- every value greater than 1 that an operation can have
+pub in-candidates : (L s : ℕ) → Odd L s → 1 < s → List·Memᴰ s (candidates L)
+unfolding candidates
+in-candidates zero s o h = absurd (let l = o .1 in omega arith)
+in-candidates (suc L) s o h =
+    let (a, l) = o in
+    let e : suc L - 1 ≡ L = omega arith in
+    let half : 2 * (s / 2) + 1 ≡ s = omega arith in
+    let i : List·Memᴰ (s / 2) (upFrom 1 (2 ^ (suc L - 1) - 1)) = rw e (in-up 1 (2 ^ L - 1) (s / 2) (omega arith) (omega (arith, pow-succ' 2 L, pow-pos L))) in
+    subst (λ z. List·Memᴰ z (candidates (suc L))) half (Memᴰ·map (λ k. 2 * k + 1) i)
 
 -- ---- one operation on u and v
 

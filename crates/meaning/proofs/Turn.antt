@@ -96,7 +96,8 @@ makes-b b rest cs new w n e =
     })
 
 -- C: no more rows than prefixes, and the end of their chain is ready afterwards
-abbrev rowOf : List ℕ → Prefix → Row
+-- the row of a prefix
+abbrev pub rowOf : List ℕ → Prefix → Row
 rowOf vals p = record { u = indexFrom 0 vals (p .before); v = 0; l1 = p .gap; l2 = 0; s = p .s; r = 0; value = p .value }
 
 c-length : (vals : List ℕ) (ps : List Prefix) → length (ruleC vals ps) ≤ length ps
