@@ -1,10 +1,10 @@
 -- The generator's graph: every row is valid, every wanted constant is made, the check accepts it, and a 129th row is never needed. Assumes nothing.
-use mathlib.Core.Path.{_≡_, refl, sym, ap, _∙_, subst, subst⁻¹}
+use mathlib.Core.Path.{_≡_, refl, sym, ap, _∙_, subst⁻¹}
 use mathlib.Core.Bool.{Bool, true, false, cond, _||_}
 use mathlib.Core.List.{List, [], _∷_, _++_, append-nil, append-assoc, List·Memᴰ, List·Memᴰ·head, List·Memᴰ·tail, List·Memᴰ·cases-cons}
 use mathlib.Core.Logic.{⊎-elim}
 use mathlib.Core.Option.{some}
-use Prim.Native.Nat.{ℕ, zero, suc, _*_, _≤_, _<_}
+use Prim.Native.Nat.{ℕ, zero, suc, _*_, _≤_}
 use native.Mathlib.Omega.{arith}
 use borrow.Author.Tests.{leb-false}
 use lib.Dec.{T, leb, le→leb}
@@ -23,7 +23,7 @@ use Rattle.meaning.specs.Graph.{rowLength, flat, values, ready, Fits, So
 use Rattle.meaning.specs.Digits.{prefixes}
 use Rattle.meaning.specs.Generator.{remaining, ruleA, ruleB, ruleC, turn, turns, generated}
 use Rattle.meaning.specs.Refusals.{mostRows, buffer, fewRows, firstOf, admitOrder, admitted, checked, drawn, rowsWritten, given}
-use Rattle.meaning.proofs.Tests.{T-of, of-right}
+use Rattle.meaning.proofs.Tests.{T-of}
 use Rattle.meaning.proofs.Graphs.{rows-flat, length-flat}
 use Rattle.meaning.proofs.Chain.{Chain, chain-is, PrefixRow, prefix-row}
 use Rattle.meaning.proofs.Stages.{stops-at, passes-on, of-need}
