@@ -1,16 +1,19 @@
 -- What steps A and B find, and when; and a turn by its three steps. Assumes nothing.
-use mathlib.Core.Path.{_≡_, refl, sym, ap, subst, subst⁻¹}
-use mathlib.Core.List.{List, [], _∷_, _++_, map, List·Memᴰ, List·Memᴰ·head, List·Memᴰ·tail, List·Memᴰ·not-nil, List·Memᴰ·cases-cons, List·Memᴰ·append-cases, Memᴰ·append-left, Memᴰ·append-right, Memᴰ·map, Memᴰ·of-map}
+use mathlib.Core.Path.{_≡_, refl, sym, ap, ap₂, _∙_, subst, subst⁻¹}
+use mathlib.Core.Bool.{_&&_}
+use mathlib.Core.List.{List, [], _∷_, _++_, map, List·Memᴰ, List·Memᴰ·head, List·Memᴰ·tail, List·Memᴰ·not-nil, List·Memᴰ·cases-cons, List·Memᴰ·append-cases, List·Memᴰ·eq-of-singleton, Memᴰ·append-left, Memᴰ·append-right, Memᴰ·map, Memᴰ·of-map}
 use mathlib.Core.Logic.{⊎-elim}
 use mathlib.Core.Option.{Option, some, none}
 use Prim.Native.Nat.{ℕ}
 use lib.Dec.{T}
 use Rattle.meaning.specs.declared.Row.{Row}
+use Rattle.meaning.specs.Basics.{andThen}
 use Rattle.meaning.specs.Graph.{Fits}
-use Rattle.meaning.specs.Distance.{candidates}
+use Rattle.meaning.specs.Distance.{reach?, serves?, candidates}
 use Rattle.meaning.specs.Digits.{prefixes}
 use Rattle.meaning.specs.Generator.{rowFor, ruleA, trials, serve, ruleB, ruleC, orRows, turn}
-use Rattle.meaning.proofs.Choices.{got, some-same, first-from, first-got, then-from, then-got, row-from}
+use Rattle.meaning.proofs.Reach.{reach-same}
+use Rattle.meaning.proofs.Choices.{got, some-same, first-from, first-got, then-from, then-got, row-from, got-row}
 
 -- ---- A
 
@@ -91,6 +94,26 @@ unfolding ruleB serve
 b-got L vals cs d s i j t q =
     first-got _ (in-trials L cs d s i j)
     (then-got (rowFor L vals s) _ t (λ x. then-got (rowFor L (vals ++ (s ∷ [])) d) (λ y. some (x ∷ y ∷ [])) q (λ y. tt)))
+
+-- a trial finds something exactly if its s serves, as the distance has it
+got-both : {A B C : Type 0} (o : Option A) (p : Option B) (f : A → B → C) → got (andThen o (λ a. andThen p (λ b. some (f a b)))) ≡ (got o && got p)
+unfolding andThen
+got-both none p f = refl
+got-both (some a) none f = refl
+got-both (some a) (some b) f = refl
+
+-- the place of the new value does not matter
+reach-front : (L : ℕ) (vals : List ℕ) (s c : ℕ) → reach? L (vals ++ (s ∷ [])) c ≡ reach? L (s ∷ vals) c
+reach-front L vals s c =
+    reach-same L (vals ++ (s ∷ [])) (s ∷ vals) c
+    (λ a i. ⊎-elim (λ j. List·Memᴰ·tail j) (λ j. List·Memᴰ·head (List·Memᴰ·eq-of-singleton j)) (List·Memᴰ·append-cases vals i))
+    (λ a i. ⊎-elim (λ e. Memᴰ·append-right vals (List·Memᴰ·head e)) (λ j. Memᴰ·append-left (s ∷ []) j) (List·Memᴰ·cases-cons i))
+
+pub serve-got : (L : ℕ) (vals : List ℕ) (c s : ℕ) → got (serve L vals (c, s)) ≡ serves? L vals c s
+unfolding serve serves?
+serve-got L vals c s =
+    got-both (rowFor L vals s) (rowFor L (vals ++ (s ∷ [])) c) (λ x y. x ∷ y ∷ [])
+    ∙ ap₂ _&&_ (got-row L vals s) (got-row L (vals ++ (s ∷ [])) c ∙ reach-front L vals s c)
 
 -- ---- a turn
 
