@@ -18,3 +18,12 @@ pub mod Ranking
 pub mod Fewest
 pub mod Products
 pub mod Placing
+pub mod Reach
+pub mod Choices
+pub mod Wanted
+pub mod Rules
+pub mod Turn
+pub mod Remaining
+pub mod Drawn
+pub mod Shortest
+pub mod Distances
