@@ -12,11 +12,11 @@ use Rattle.meaning.specs.declared.Row.{Row}
 use Rattle.meaning.specs.Basics.{zeros, firstSome, andThen}
 use Rattle.meaning.specs.Operation.{size, Valid}
 use Rattle.meaning.specs.Graph.{Fits}
-use Rattle.meaning.specs.Distance.{gives?, reach?}
+use Rattle.meaning.specs.Distance.{gives?, reach?, Reached}
 use Rattle.meaning.specs.Generator.{chosen, rowFor}
 use Rattle.meaning.proofs.Tests.{in-up, up-in, of-left, of-right, T-of, bool-ext}
 use Rattle.meaning.proofs.Inverse.{valid-swap}
-use Rattle.meaning.proofs.Reach.{pairs-in, sign-in, gives-of-test, test-of-gives, Reached, reach-is}
+use Rattle.meaning.proofs.Reach.{pairs-in, sign-in, gives-of-test, test-of-gives, reach-is}
 
 -- something was found
 abbrev pub got {ℓ} : {A : Type ℓ} → Option A → Bool

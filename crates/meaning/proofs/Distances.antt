@@ -11,17 +11,11 @@ use Rattle.meaning.specs.declared.Answer.the-variants.{Accepted}
 use Rattle.meaning.specs.declared.Far.{Far}
 use Rattle.meaning.specs.declared.Far.the-variants.{Zero, One, Two, Beyond}
 use Rattle.meaning.specs.Basics.{any, has}
-use Rattle.meaning.specs.Distance.{reach?, serves?, candidates, distance}
+use Rattle.meaning.specs.Distance.{reach?, serves?, candidates, distance, Reached, ReachedTwice}
 use Rattle.meaning.specs.Limits.{limit}
 use Rattle.meaning.specs.Refusals.{firstOf, distanceOrder, orFar, distanceTold}
 use Rattle.meaning.proofs.Tests.{both-of, of-both, any-in, in-any, true-of, bool-ext}
-use Rattle.meaning.proofs.Reach.{in-has, has-in, Within, in-candidates, Reached, reach-is, reached-odd, reached-within, reach-same}
-
--- some s is reached by one operation, and with s added one operation reaches c; s may be greater than c
-pub record ReachedTwice (L : ℕ) (vals : List ℕ) (c : ℕ) : Type 0 where
-  pub s : ℕ
-  pub first : Reached L vals s
-  pub second : Reached L (s ∷ vals) c
+use Rattle.meaning.proofs.Reach.{in-has, has-in, Within, in-candidates, reach-is, reached-odd, reached-within, reach-same}
 
 -- ---- the test for two operations
 

@@ -10,7 +10,7 @@ use lib.Dec.{T, eqb, eqb→eq, eqb-refl}
 use lib.Pow.{pow-pos}
 use Rattle.meaning.specs.Basics.{any, has, upFrom, zeros}
 use Rattle.meaning.specs.Operation.{size, Valid, Gives}
-use Rattle.meaning.specs.Distance.{gives?, shiftPairs, oneOp?, reach?, candidates}
+use Rattle.meaning.specs.Distance.{gives?, shiftPairs, oneOp?, reach?, Reached, candidates}
 use Rattle.meaning.proofs.Tests.{any-in, in-any, in-up, either-of, of-left, of-right, bool-ext}
 use Rattle.meaning.proofs.Operations.{valid-of-test, test-of-valid, exact-of}
 use Rattle.meaning.proofs.Inverse.{Odd}
@@ -91,14 +91,6 @@ module _ (L u v c : ℕ) where
   one-is = (one-of, of-one)
 
 -- ---- one operation on two values of a list
-
--- perhaps the same one twice
-pub record Reached (L : ℕ) (vals : List ℕ) (c : ℕ) : Type 0 where
-  pub u : ℕ
-  pub v : ℕ
-  pub first : List·Memᴰ u vals
-  pub second : List·Memᴰ v vals
-  pub gives : Gives L u v c
 
 reached-of : (L : ℕ) (vals : List ℕ) (c : ℕ) → T (reach? L vals c) → Reached L vals c
 unfolding reach?

@@ -19,10 +19,11 @@ use Rattle.meaning.specs.Graph.{rows, values, Fits, Sound, served?}
 use Rattle.meaning.specs.Digits.{canonic, nonzeros}
 use Rattle.meaning.specs.Generator.{rowFor, remaining, ruleA, ruleB, turn, turns, generated}
 use Rattle.meaning.specs.Refusals.{checked}
+use Rattle.meaning.specs.Distance.{Reached}
 use Rattle.meaning.proofs.Tests.{either-of}
 use Rattle.meaning.proofs.Graphs.{length-rows}
 use Rattle.meaning.proofs.Checked.{good-of}
-use Rattle.meaning.proofs.Reach.{has-in, in-candidates, Reached, reach-is, reached-odd, reached-within}
+use Rattle.meaning.proofs.Reach.{has-in, in-candidates, reach-is, reached-odd, reached-within}
 use Rattle.meaning.proofs.Choices.{got, row-got, fits-reached, got-row}
 use Rattle.meaning.proofs.Wanted.{Wanted, AllWanted, all-wanted, wanted-in}
 use Rattle.meaning.proofs.Rules.{a-from, a-got, b-from, b-got, turn-by}

@@ -1,11 +1,11 @@
 -- Distance: how many operations make a constant from a list of values. Assumes nothing.
 use mathlib.Core.Bool.{Bool, true, false, _&&_, _||_, cond}
-use mathlib.Core.List.{List, [], _∷_, _++_, map}
+use mathlib.Core.List.{List, [], _∷_, _++_, map, List·Memᴰ}
 use Prim.Native.Nat.{ℕ, _+_, _-_, _*_, _^_}
 use Rattle.meaning.specs.declared.Far.{Far}
 use Rattle.meaning.specs.declared.Far.the-variants.{Zero, One, Two, Beyond}
 use Rattle.meaning.specs.Basics.{any, has, upFrom, zeros}
-use Rattle.meaning.specs.Operation.{size, valid?}
+use Rattle.meaning.specs.Operation.{size, valid?, Gives}
 
 -- one operation on u and v with these shifts and sign gives c
 unfoldable pub gives? : (L u v l1 l2 s c : ℕ) → Bool
@@ -22,6 +22,20 @@ oneOp? L u v c = any (λ p. gives? L u v (p .0) (p .1) 0 c || gives? L u v (p .0
 -- one operation on two values of the list, perhaps the same one twice, gives c
 unfoldable pub reach? : ℕ → List ℕ → ℕ → Bool
 reach? L vals c = any (λ u. any (λ v. oneOp? L u v c) vals) vals
+
+-- the same as a statement
+pub record Reached (L : ℕ) (vals : List ℕ) (c : ℕ) : Type 0 where
+  pub u : ℕ
+  pub v : ℕ
+  pub first : List·Memᴰ u vals
+  pub second : List·Memᴰ v vals
+  pub gives : Gives L u v c
+
+-- some s is reached by one operation, and with s added one operation reaches c; s may be greater than c
+pub record ReachedTwice (L : ℕ) (vals : List ℕ) (c : ℕ) : Type 0 where
+  pub s : ℕ
+  pub first : Reached L vals s
+  pub second : Reached L (s ∷ vals) c
 
 -- s is reached by one operation, and with s added to the list one operation gives c
 unfoldable pub serves? : ℕ → List ℕ → ℕ → ℕ → Bool
