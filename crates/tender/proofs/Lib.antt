@@ -1,2 +1,3 @@
 pub mod Examples
 pub mod Condition2
+pub mod Condition3

@@ -1,0 +1,42 @@
+-- Condition 3: the generator's graphs, and the distance test. Assumes nothing.
+use mathlib.Core.Path.{_≡_}
+use mathlib.Core.List.{List, [], _∷_, List·Memᴰ}
+use mathlib.Core.Logic.{_↔_}
+use Prim.Native.Nat.{ℕ, _≤_, _<_}
+use lib.IntN.{ℤ}
+use lib.ListN.{length}
+use Rattle.meaning.specs.declared.Answer.the-variants.{Accepted}
+use Rattle.meaning.specs.declared.Far.the-variants.{Zero, One, Two, Beyond}
+use Rattle.meaning.specs.Limits.{limit}
+use Rattle.meaning.specs.Constants.{oddOf, wanted, Ascending}
+use Rattle.meaning.specs.Distance.{Reached, ReachedTwice}
+use Rattle.meaning.specs.Digits.{Canonic, canonic, nonzeros, csdSum}
+use Rattle.meaning.specs.Generator.{generated}
+use Rattle.meaning.specs.Refusals.{checked, drawn, rowsWritten, firstOf, distanceOrder, distanceTold}
+
+-- c is one of the distinct odd parts greater than one
+pub record OddPart (ts : List ℤ) (c : ℕ) : Type 0 where
+  pub target : ℤ
+  pub listed : List·Memᴰ target ts
+  pub part : oddOf target ≡ c
+  pub above : 1 < c
+
+pub record Condition3 : Type 0 where
+  -- on every call that is not refused, what the generator writes is a graph that condition 2 accepts
+  pub accepted : (b : ℕ) (ts : List ℤ) (room : ℕ) → drawn b ts room ≡ Accepted → checked b ts (length (generated b ts)) (rowsWritten b ts room) ≡ Accepted
+  -- it never has more rows than the sum, over the distinct odd parts greater than one, of the nonzero canonic digits less one each
+  pub few-rows : (b : ℕ) (ts : List ℤ) (room : ℕ) → drawn b ts room ≡ Accepted → length (generated b ts) ≤ csdSum (wanted ts)
+  pub wanted-are : (ts : List ℤ) (c : ℕ) → List·Memᴰ c (wanted ts) ↔ OddPart ts c
+  pub wanted-once : (ts : List ℤ) → Ascending (wanted ts)
+  pub canonic-is : (c : ℕ) → Canonic c (canonic c)
+  -- with exactly one such odd part, of at most four nonzero digits, no accepted graph under the same bit limit has fewer rows
+  pub fewest : (b : ℕ) (ts : List ℤ) (c n : ℕ) (w : List ℕ) → wanted ts ≡ c ∷ [] → nonzeros (canonic c) ≤ 4 → checked b ts n w ≡ Accepted
+      → length (generated b ts) ≤ n
+  -- a constant is reported at 0, 1 or 2, or beyond, exactly if it is one of the values, or one or two bounded operations reach it from them
+  pub zero : (b : ℕ) (vals : List ℕ) (c : ℕ) → firstOf (distanceOrder b vals c) ≡ Accepted → (distanceTold b vals c ≡ Zero) ↔ List·Memᴰ c vals
+  pub one : (b : ℕ) (vals : List ℕ) (c : ℕ) → firstOf (distanceOrder b vals c) ≡ Accepted
+      → (distanceTold b vals c ≡ One) ↔ ((¬ List·Memᴰ c vals) × Reached (limit b) vals c)
+  pub two : (b : ℕ) (vals : List ℕ) (c : ℕ) → firstOf (distanceOrder b vals c) ≡ Accepted
+      → (distanceTold b vals c ≡ Two) ↔ ((¬ List·Memᴰ c vals) × (¬ Reached (limit b) vals c) × ReachedTwice (limit b) vals c)
+  pub beyond : (b : ℕ) (vals : List ℕ) (c : ℕ) → firstOf (distanceOrder b vals c) ≡ Accepted
+      → (distanceTold b vals c ≡ Beyond) ↔ ((¬ List·Memᴰ c vals) × (¬ Reached (limit b) vals c) × (¬ ReachedTwice (limit b) vals c))
