@@ -6,7 +6,7 @@ use native.Mathlib.Omega.{arith}
 use native.Mathlib.Nat.{suc-add}
 use native.Mathlib.Numerals.{add-one}
 use lib.ListN.{length, take, drop, getD, set, length-append, length-drop, length-map, take-append-drop}
-use lib.Seq.{take-at, drop-at, drop-drop, take-suc, take-length, length-take-le}
+use lib.Seq.{take-at, drop-at, drop-drop, take-suc, take-length, length-take-le, sets, sets-eq}
 use Rattle.meaning.specs.declared.Row.{Row}
 use Rattle.meaning.specs.Basics.{over, after}
 use Rattle.meaning.specs.Graph.{rowLength, rowAt, rows}
@@ -50,6 +50,12 @@ module _ {A : Type 0} where
       ap (λ j. set (take n old ++ over new (drop n old)) (j + i) v) (sym (length-take-le n old (omega arith)))
       ∙ set-append-add (take n old) (over new (drop n old)) i v
       ∙ ap (λ l. take n old ++ l) (over-at new (drop n old) v i e (simp length-drop (omega arith)))
+
+  -- stores one after the other
+  pub after-sets : (at : ℕ) (vs old : List A) → at + length vs ≤ length old → sets old at vs ≡ after at vs old
+  unfolding after over
+  after-sets at vs old h =
+      sets-eq vs old at h ∙ ap (λ l. take at old ++ vs ++ l) (sym (drop-drop (length vs) at old)) ∙ append-assoc (take at old) vs (drop (length vs) (drop at old))
 
 -- the rows' part of what a loop over the rows writes
 pub over-rows : {B : Type 0} (f : Row → B) (w : List ℕ) (old : List B) (i : ℕ) → i < length old

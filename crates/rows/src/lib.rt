@@ -1,4 +1,4 @@
-// A graph's rows in a lent slice of words: one row's words, the value of an index, and a row's validity.
+// A graph's rows in a lent slice of words: one row read and written, the value of an index, and a row's validity.
 use meaning::Operated;
 use meaning::ROW_LENGTH;
 use meaning::Row;
@@ -7,9 +7,10 @@ ghost use mathlib.Core.Bool.{_&&_};
 ghost use Prim.Native.Nat.{_+_, _*_, _≤_};
 ghost use lib.Dec.{leb};
 ghost use lib.ListN.{length, getD};
+ghost use Rattle.meaning.specs.Basics.{after};
 ghost use Rattle.meaning.specs.Limits.{limit};
 ghost use Rattle.meaning.specs.Operation.{valid?};
-ghost use Rattle.meaning.specs.Graph.{rowLength, rowAt, rows, ready, rowFits};
+ghost use Rattle.meaning.specs.Graph.{rowLength, words, rowAt, rows, ready, rowFits};
 
 // The row whose words begin at a place.
 pub fn row_at(words: &[u32], at: usize) -> Row
@@ -71,4 +72,18 @@ pub fn row_fits(b: u32, words: &[u32], i: usize) -> bool
     let u = value_at(words, i, first);
     let v = value_at(words, i, second);
     agrees(b, u, v, x)
+}
+
+// The row's words, written from a place on.
+pub fn put_row(out: &mut [u32], at: usize, x: Row)
+    requires { ⌜ at + rowLength ≤ length (now out) ⌝ }
+    ensures { λ _. ⌜ now (out .exit) ≡ after at (words x) (now (out .entry)) ⌝ }
+{
+    out[at] = x.u;
+    out[at + 1] = x.v;
+    out[at + 2] = x.l1;
+    out[at + 3] = x.l2;
+    out[at + 4] = x.s;
+    out[at + 5] = x.r;
+    out[at + 6] = x.value;
 }
