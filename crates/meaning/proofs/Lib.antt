@@ -27,3 +27,4 @@ pub mod Remaining
 pub mod Drawn
 pub mod Shortest
 pub mod Distances
+pub mod Steps
