@@ -2,3 +2,6 @@
 pub mod Sides
 pub mod Serves
 pub mod Marks
+pub mod Scan
+pub mod Choosing
+pub mod RuleB
