@@ -16,12 +16,11 @@ use Rattle.meaning.specs.Basics.{upFrom, firstSome}
 use Rattle.meaning.specs.Distance.{reach?, serves?, candidates}
 use Rattle.meaning.proofs.Tests.{up-in}
 use Rattle.meaning.proofs.Inverse.{Odd}
-use Rattle.reach.specs.declared.Choice.{Choice}
 use Rattle.reach.specs.declared.Choice.the-variants.{At, Nothing}
 use Rattle.reach.specs.Sides.{with?, twice?}
 use Rattle.reach.specs.Marks.{Holds, Adds, Ready}
 use Rattle.reach.specs.Choices.{used, serving, pick, chosenIn, both?, probe, scanned}
-use Rattle.reach.proofs.Marks.{adds-then, holds-then, eqb-bit}
+use Rattle.reach.proofs.Marks.{holds-then, eqb-bit}
 use Rattle.reach.proofs.Serves.{AllOdd, some-bits, serves-is}
 use Rattle.reach.proofs.Scan.{first-none, first-some, used-none, used-some, first-same, used-same, first-map, used-map}
 
@@ -135,11 +134,12 @@ module _ (lim L e : ℕ) (vals a b : List ℕ) (c : ℕ) (last : e ≡ min (2 ^ 
       ∙ sym (used-map (serving L vals c) (λ k. 2 * k + 1) (upFrom 1 (e - 1)))
       ∙ ap (used (serving L vals c)) (sym (candidates-take lim L e last)))
 
--- ---- what `choose` hands over
+-- a map of zeros with these marks
+pub serve-holds : (L : ℕ) (vals : List ℕ) (c : ℕ) {z b : List ℕ} → Holds z (λ s. false)
+    → Adds z b (λ s. with? L c vals s || twice? L c s) → Holds b (λ s. with? L c vals s || twice? L c s)
+serve-holds L vals c h p = holds-then h p (λ k. refl)
 
-pub serve-holds : (L : ℕ) (vals : List ℕ) (c : ℕ) {z a b : List ℕ} → Holds z (λ s. false)
-    → Adds z a (λ s. with? L c vals s) → Adds a b (λ s. twice? L c s) → Holds b (λ s. with? L c vals s || twice? L c s)
-serve-holds L vals c h p q = holds-then h (adds-then p q (λ k. refl)) (λ k. refl)
+-- ---- the ready values
 
 mem-take : (xs : List ℕ) (n u : ℕ) → List·Memᴰ u (take n xs) → (i : ℕ) × (i < n) × (u ≡ getD xs i 0)
 mem-take xs zero u i = absurd (List·Memᴰ·not-nil i)

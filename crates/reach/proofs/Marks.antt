@@ -11,7 +11,7 @@ use lib.Dec.{T, eqb, eqb→eq}
 use lib.ListN.{length, getD, set, take, replicate, length-set, length-replicate, getD-replicate}
 use lib.Pow.{pow-mono}
 use lib.Seq.{getD-set-same, getD-set-other, take-suc, take-suc-set}
-use Rattle.meaning.specs.Basics.{any, upFrom, zeros}
+use Rattle.meaning.specs.Basics.{any, zeros}
 use Rattle.meaning.specs.Operation.{size}
 use Rattle.meaning.specs.Distance.{oneOp?, reach?}
 use Rattle.meaning.proofs.Tests.{eq→eqb, true-of, false-of}

@@ -4,7 +4,7 @@ use mathlib.Core.Path.{_≡_, refl, sym, ap, _∙_, subst, subst⁻¹}
 use mathlib.Core.Bool.{Bool, true, false, cond}
 use mathlib.Core.List.{List, [], _∷_, _++_, map}
 use mathlib.Core.Option.{Option, some, none}
-use Prim.Native.Nat.{ℕ, zero, suc, _+_, _-_, _^_, _≤_}
+use Prim.Native.Nat.{ℕ, _+_, _-_, _^_, _≤_}
 use native.Mathlib.Omega.{arith}
 use lib.Dec.{T}
 use lib.ListN.{take}
@@ -18,7 +18,6 @@ use Rattle.meaning.proofs.Inverse.{Odd}
 use Rattle.meaning.proofs.Reach.{reach-is, reached-odd}
 use Rattle.meaning.proofs.Rules.{serve-got}
 use Rattle.meaning.proofs.Tests.{both-of, T-of}
-use Rattle.reach.specs.declared.Choice.{Choice}
 use Rattle.reach.specs.declared.Choice.the-variants.{At, Nothing}
 use Rattle.reach.specs.Choices.{used, serving, pick, chosenIn}
 use Rattle.reach.proofs.Scan.{step, first-step, first-append, first-map, first-take, through, first-through, used-through}

@@ -1,17 +1,15 @@
 -- Which s serve c, by the inverse operation: where the list alone does not reach c, c is reached with s added exactly if one operation on c and a
 -- value of the list gives s, or c is s times 2 ^ l - 1 or 2 ^ l + 1. Assumes nothing.
 use mathlib.Core.Path.{_≡_, refl, sym, ap, _∙_, subst, subst⁻¹}
-use mathlib.Core.Bool.{Bool, true, false, _||_}
-use mathlib.Core.List.{List, [], _∷_, List·Memᴰ, List·Memᴰ·head, List·Memᴰ·tail, List·Memᴰ·cases-cons}
+use mathlib.Core.Bool.{false, _||_}
+use mathlib.Core.List.{List, _∷_, List·Memᴰ, List·Memᴰ·head, List·Memᴰ·tail, List·Memᴰ·cases-cons}
 use mathlib.Core.Logic.{_⊎_, inl, inr, ⊎-elim}
-use Prim.Native.Nat.{ℕ, zero, suc, _+_, _-_, _*_, _/_, _%_, _^_, _≤_, _<_}
+use Prim.Native.Nat.{ℕ, zero, suc, _+_, _-_, _*_, _%_, _^_, _≤_}
 use native.Mathlib.Omega.{arith}
-use native.Mathlib.Decide.{decLe}
 use native.Mathlib.Nat.{mul-add, mul-sub, mul-one, le-mul-of-pos-right}
 use lib.Dec.{T, eqb, eqb→eq}
 use lib.Pow.{pow-pos}
-use Rattle.meaning.specs.Basics.{gap, any, upFrom, zeros}
-use Rattle.meaning.specs.Operation.{Gives}
+use Rattle.meaning.specs.Basics.{upFrom}
 use Rattle.meaning.specs.Distance.{oneOp?, reach?}
 use Rattle.meaning.proofs.Tests.{bool-ext, eq→eqb, any-in, in-any, either-of, of-left, of-right, in-up, up-in}
 use Rattle.meaning.proofs.Zeros.{zeros-unique}

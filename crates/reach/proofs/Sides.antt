@@ -1,6 +1,6 @@
 -- One operation on two values is a hit on one of the two sides; and with one value more a list reaches what it did, and what that value makes
 -- with each of the list's values and with itself. Assumes nothing.
-use mathlib.Core.Path.{_≡_, refl, sym, ap, _∙_, subst}
+use mathlib.Core.Path.{_≡_, refl, _∙_, subst}
 use mathlib.Core.Bool.{Bool, true, false, _||_}
 use mathlib.Core.List.{List, [], _∷_, _++_, List·Memᴰ, List·Memᴰ·head, List·Memᴰ·append-cases, List·Memᴰ·eq-of-singleton, Memᴰ·append-left, Memᴰ·append-right}
 use mathlib.Core.Logic.{_⊎_, inl, inr, ⊎-elim}
@@ -10,7 +10,7 @@ use native.Mathlib.Decide.{ℕ-discrete}
 use lib.Dec.{T}
 use Rattle.meaning.specs.Basics.{any, upFrom, zeros}
 use Rattle.meaning.specs.Operation.{size, Outcome, Valid, Gives}
-use Rattle.meaning.specs.Distance.{oneOp?, reach?, Reached}
+use Rattle.meaning.specs.Distance.{oneOp?, reach?}
 use Rattle.meaning.proofs.Tests.{bool-ext, any-in, in-any, either-of, of-left, of-right, in-up, up-in}
 use Rattle.meaning.proofs.Operations.{outcome-of-test, test-of-outcome}
 use Rattle.meaning.proofs.Inverse.{valid-swap, gives-swap}
