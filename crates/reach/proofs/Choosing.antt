@@ -1,0 +1,154 @@
+-- The ascending scan over two maps is step B's choice: the first map holds what one operation reaches, the second the values with which one
+-- operation gives the constant. Assumes nothing.
+use mathlib.Core.Path.{_≡_, refl, sym, ap, ap₂, _∙_}
+use mathlib.Core.Bool.{Bool, true, false, _||_, _&&_, cond}
+use mathlib.Core.List.{List, [], _∷_, map, List·Memᴰ, List·Memᴰ·not-nil, List·Memᴰ·cases-cons}
+use mathlib.Core.Logic.{⊎-elim}
+use mathlib.Core.Option.{Option, some, none}
+use Prim.Native.Nat.{ℕ, zero, suc, _+_, _-_, _*_, _%_, _^_, _≤_, _<_, min}
+use native.Mathlib.Nat.{pow-succ'}
+use native.Mathlib.Numerals.{add-one}
+use native.Mathlib.Omega.{arith}
+use lib.Dec.{eqb}
+use lib.ListN.{length, getD, take}
+use lib.Pow.{pow-pos}
+use Rattle.meaning.specs.Basics.{upFrom, firstSome}
+use Rattle.meaning.specs.Distance.{reach?, serves?, candidates}
+use Rattle.meaning.proofs.Tests.{up-in}
+use Rattle.meaning.proofs.Inverse.{Odd}
+use Rattle.reach.specs.declared.Choice.the-variants.{At, Nothing}
+use Rattle.reach.specs.Sides.{with?, twice?}
+use Rattle.reach.specs.Marks.{Holds, Adds, Ready}
+use Rattle.reach.specs.Choices.{used, serving, pick, chosenIn, both?, probe, scanned}
+use Rattle.reach.proofs.Marks.{holds-then, eqb-bit}
+use Rattle.reach.proofs.Serves.{AllOdd, some-bits, serves-is}
+use Rattle.reach.proofs.Scan.{first-none, first-some, used-none, used-some, first-same, used-same, first-map, used-map}
+
+-- ---- the scan
+
+split : (k e : ℕ) → k < e → upFrom k (e - k) ≡ k ∷ upFrom (k + 1) (e - (k + 1))
+split k e h =
+    let n : e - k ≡ suc (e - (k + 1)) = omega arith in
+    ap (upFrom k) n ∙ ap (λ (j : ℕ). k ∷ upFrom j (e - (k + 1))) (sym (add-one k))
+
+-- where the scan stands: at k, after t trials, of 1 .. e - 1
+pub record Scan (f : ℕ → Option ℕ) (e k t : ℕ) : Type 0 where
+  pub from : 1 ≤ k
+  pub to : k ≤ e
+  pub counted : t + 1 ≡ k
+  pub first : firstSome f (upFrom 1 (e - 1)) ≡ firstSome f (upFrom k (e - k))
+  pub uses : used f (upFrom 1 (e - 1)) ≡ t + used f (upFrom k (e - k))
+
+module _ (f : ℕ → Option ℕ) (e : ℕ) where
+  pub scan-start : 1 ≤ e → Scan f e 1 0
+  scan-start h = record { from = omega arith; to = h; counted = refl; first = refl; uses = omega arith }
+
+  pub scan-pass : (k t : ℕ) → Scan f e k t → k < e → f k ≡ none → Scan f e (k + 1) (t + 1)
+  scan-pass k t s h n =
+      let p = split k e h in
+      let u : used f (upFrom k (e - k)) ≡ suc (used f (upFrom (k + 1) (e - (k + 1)))) = ap (used f) p ∙ used-none f k _ n in
+      record {
+        from = omega arith;
+        to = omega arith;
+        counted = omega (arith, s .counted);
+        first = s .first ∙ ap (firstSome f) p ∙ first-none f k _ n;
+        uses = omega (arith, s .uses);
+      }
+
+  pub scan-hit : (k t b : ℕ) → Scan f e k t → k < e → f k ≡ some b → At b (t + 1) ≡ pick (firstSome f (upFrom 1 (e - 1))) (used f (upFrom 1 (e - 1)))
+  scan-hit k t b s h n =
+      let p = split k e h in
+      sym (ap₂ pick (s .first ∙ ap (firstSome f) p ∙ first-some f k _ b n) (s .uses ∙ ap (λ (x : ℕ). t + x) (ap (used f) p ∙ used-some f k _ b n)))
+
+  pub scan-end : (k t : ℕ) → Scan f e k t → e ≤ k → Nothing t ≡ pick (firstSome f (upFrom 1 (e - 1))) (used f (upFrom 1 (e - 1)))
+  unfolding firstSome used
+  scan-end k t s h =
+      let z : e - k ≡ 0 = omega arith in
+      let q : used f (upFrom 1 (e - 1)) ≡ t = omega (arith, s .uses ∙ ap (λ (x : ℕ). t + used f (upFrom k x)) z) in
+      sym (ap₂ pick (s .first ∙ ap (λ (x : ℕ). firstSome f (upFrom k x)) z) q)
+
+pub probe-hit : (a b : List ℕ) (k : ℕ) → both? a b k ≡ true → probe a b k ≡ some (2 * k + 1)
+probe-hit a b k e = ap (λ (t : Bool). cond t (some (2 * k + 1)) none) e
+
+pub probe-none : (a b : List ℕ) (k : ℕ) → both? a b k ≡ false → probe a b k ≡ none
+probe-none a b k e = ap (λ (t : Bool). cond t (some (2 * k + 1)) none) e
+
+-- ---- the first k candidates
+
+pub half : (L : ℕ) → 1 ≤ L → 2 ^ L ≡ 2 * 2 ^ (L - 1)
+half L h = let e : L ≡ suc (L - 1) = omega arith in ap (λ (x : ℕ). 2 ^ x) e ∙ pow-succ' 2 (L - 1)
+
+take-up : (k n a : ℕ) → take k (upFrom a n) ≡ upFrom a (min n k)
+take-up zero n a = let e : 0 ≡ min n 0 = omega arith in ap (upFrom a) e
+take-up (suc k) zero a = let e : 0 ≡ min 0 (suc k) = omega arith in ap (upFrom a) e
+take-up (suc k) (suc n) a =
+    let e : suc (min n k) ≡ min (suc n) (suc k) = omega arith in
+    ap (λ (l : List ℕ). a ∷ l) (take-up k n (suc a)) ∙ ap (upFrom a) e
+
+take-map : (f : ℕ → ℕ) (k : ℕ) (xs : List ℕ) → take k (map f xs) ≡ map f (take k xs)
+take-map f zero xs = refl
+take-map f (suc k) [] = refl
+take-map f (suc k) (x ∷ xs) = ap (λ (l : List ℕ). f x ∷ l) (take-map f k xs)
+
+candidates-take : (k L e : ℕ) → e ≡ min (2 ^ (L - 1)) (k + 1) → take k (candidates L) ≡ map (λ j. 2 * j + 1) (upFrom 1 (e - 1))
+unfolding candidates
+candidates-take k L e h =
+    let p = pow-pos (L - 1) in
+    let q : min (2 ^ (L - 1) - 1) k ≡ e - 1 = omega arith in
+    take-map (λ j. 2 * j + 1) k (upFrom 1 (2 ^ (L - 1) - 1)) ∙ ap (map (λ j. 2 * j + 1)) (take-up k (2 ^ (L - 1) - 1) 1 ∙ ap (upFrom 1) q)
+
+-- a ceiling that is no less than the number of candidates stops nothing
+pub candidates-all : (k L : ℕ) → 2 ^ (L - 1) ≤ k + 1 → take k (candidates L) ≡ candidates L
+unfolding candidates
+candidates-all k L h = candidates-take k L (2 ^ (L - 1)) (omega arith)
+
+-- ---- the maps hold what the definition asks
+
+module _ (lim L e : ℕ) (vals a b : List ℕ) (c : ℕ) (last : e ≡ min (2 ^ (L - 1)) (lim + 1))
+    (oa : AllOdd L vals) (oc : Odd L c) (away : reach? L vals c ≡ false)
+    (wa : 2 ^ L ≤ 2 * length a) (wb : 2 ^ L ≤ 2 * length b)
+    (ha : Holds a (λ s. reach? L vals s)) (hb : Holds b (λ s. with? L c vals s || twice? L c s)) where
+  both-is : (k : ℕ) → k < 2 ^ (L - 1) → both? a b k ≡ serves? L vals c (2 * k + 1)
+  unfolding serves?
+  both-is k h =
+      let w = half L (some-bits L c oc) in
+      let p : eqb (getD a k 0) 1 ≡ reach? L vals (2 * k + 1) = ap (λ (x : ℕ). eqb x 1) (ha .bits k (omega arith)) ∙ eqb-bit _ in
+      let q : eqb (getD b k 0) 1 ≡ reach? L ((2 * k + 1) ∷ vals) c =
+      ap (λ (x : ℕ). eqb x 1) (hb .bits k (omega arith)) ∙ eqb-bit _
+      ∙ sym (serves-is L vals c (2 * k + 1) oa oc (omega arith, omega arith) away) in
+      ap₂ _&&_ p q
+
+  probe-is : (k : ℕ) → List·Memᴰ k (upFrom 1 (e - 1)) → probe a b k ≡ serving L vals c (2 * k + 1)
+  probe-is k i =
+      let h = up-in 1 (e - 1) k i in
+      ap (λ (t : Bool). cond t (some (2 * k + 1)) none) (both-is k (omega (arith, last)))
+
+  pub scanned-is : scanned a b e ≡ chosenIn L vals c lim
+  unfolding scanned chosenIn
+  scanned-is =
+      ap₂ pick
+      (first-same (probe a b) (λ k. serving L vals c (2 * k + 1)) (upFrom 1 (e - 1)) probe-is
+      ∙ sym (first-map (serving L vals c) (λ k. 2 * k + 1) (upFrom 1 (e - 1)))
+      ∙ ap (firstSome (serving L vals c)) (sym (candidates-take lim L e last)))
+      (used-same (probe a b) (λ k. serving L vals c (2 * k + 1)) (upFrom 1 (e - 1)) probe-is
+      ∙ sym (used-map (serving L vals c) (λ k. 2 * k + 1) (upFrom 1 (e - 1)))
+      ∙ ap (used (serving L vals c)) (sym (candidates-take lim L e last)))
+
+-- a map of zeros with these marks
+pub serve-holds : (L : ℕ) (vals : List ℕ) (c : ℕ) {z b : List ℕ} → Holds z (λ s. false)
+    → Adds z b (λ s. with? L c vals s || twice? L c s) → Holds b (λ s. with? L c vals s || twice? L c s)
+serve-holds L vals c h p = holds-then h p (λ k. refl)
+
+-- ---- the ready values
+
+mem-take : (xs : List ℕ) (n u : ℕ) → List·Memᴰ u (take n xs) → (i : ℕ) × (i < n) × (u ≡ getD xs i 0)
+mem-take xs zero u i = absurd (List·Memᴰ·not-nil i)
+mem-take [] (suc n) u i = absurd (List·Memᴰ·not-nil i)
+mem-take (x ∷ xs) (suc n) u i =
+    ⊎-elim (λ e. (0, omega arith, e)) (λ j. let (k, h, e) = mem-take xs n u j in (suc k, omega arith, e)) (List·Memᴰ·cases-cons i)
+
+pub take-odd : (L : ℕ) (xs : List ℕ) (n : ℕ) → Ready L xs n → AllOdd L (take n xs)
+take-odd L xs n r u i =
+    let (k, h, e) = mem-take xs n u i in
+    let o = r .1 k h in
+    (ap (λ (x : ℕ). x % 2) e ∙ o .0, rw e (o .1))

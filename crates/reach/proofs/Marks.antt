@@ -1,0 +1,267 @@
+-- Marks in a map: how additions compose, and what each step of the code adds. Assumes nothing.
+use mathlib.Core.Path.{_≡_, refl, sym, ap, ap₂, _∙_, subst}
+use mathlib.Core.Bool.{Bool, true, false, _||_}
+use mathlib.Core.List.{List, [], _∷_, _++_}
+use Prim.Native.Nat.{ℕ, zero, suc, _+_, _-_, _*_, _/_, _%_, _^_, _≤_, _<_}
+use native.Mathlib.Decide.{ℕ-discrete}
+use native.Mathlib.Omega.{arith}
+use native.Mathlib.Numerals.{add-one}
+use native.Mathlib.Nat.{zero-add, mul-assoc, div-add-mod', div-le-self, mul-div-cancel, mul-mod-left}
+use lib.Dec.{T, eqb, eqb→eq}
+use lib.ListN.{length, getD, set, take, replicate, length-set, length-replicate, getD-replicate}
+use lib.Pow.{pow-mono}
+use lib.Seq.{getD-set-same, getD-set-other, take-suc, take-suc-set}
+use Rattle.meaning.specs.Basics.{any, zeros}
+use Rattle.meaning.specs.Operation.{size}
+use Rattle.meaning.specs.Distance.{oneOp?, reach?}
+use Rattle.meaning.proofs.Tests.{eq→eqb, true-of, false-of}
+use Rattle.meaning.proofs.Zeros.{zeros-left}
+use Rattle.reach.specs.Sides.{hits?, at?, sideTo?, with?, factor?, twice?}
+use Rattle.reach.specs.Marks.{bit, markOf, Holds, Adds, marked, Wide, State}
+use Rattle.reach.proofs.Sides.{any-up, hit-outcome, outcome-hit, one-self, reach-add}
+
+-- ---- additions
+
+-- nothing is added
+pub adds-none : {ms new : List ℕ} {Q : ℕ → Bool} → new ≡ ms → ((k : ℕ) → k < length ms → T (Q (2 * k + 1)) → ⊥) → Adds ms new Q
+adds-none {ms} {new} {Q} e h =
+    record {
+      long = ap length e;
+      marks = λ k l. ap (λ (x : List ℕ). getD x k 0) e ∙ ap (λ (b : Bool). markOf b (getD ms k 0)) (sym (false-of (Q (2 * k + 1)) (h k l)));
+    }
+
+-- one mark is added
+pub adds-one : {ms new : List ℕ} {Q : ℕ → Bool} (at : ℕ) → new ≡ set ms at 1 → at < length ms → T (Q (2 * at + 1)) → ((k : ℕ) → T (Q (2 * k + 1)) → k ≡ at) → Adds ms new Q
+adds-one {ms} {new} {Q} at e h t f =
+    record {
+      long = ap length e ∙ simp length-set;
+      marks = λ k l. ap (λ (x : List ℕ). getD x k 0) e ∙ go k (ℕ-discrete k at);
+    }
+  where
+    go : (k : ℕ) → Dec (k ≡ at) → getD (set ms at 1) k 0 ≡ markOf (Q (2 * k + 1)) (getD ms k 0)
+    go k (yes q) = rw (q, true-of (Q (2 * at + 1)) t) (getD-set-same ms at 1 0 h)
+    go k (no q) = rw (false-of (Q (2 * k + 1)) (λ w. q (f k w))) (getD-set-other ms at k 1 0 q)
+
+mark-or : (a b : Bool) (m : ℕ) → markOf b (markOf a m) ≡ markOf (a || b) m
+mark-or true true m = refl
+mark-or true false m = refl
+mark-or false b m = refl
+
+-- one after the other
+pub adds-then : {a b c : List ℕ} {P Q R : ℕ → Bool} → Adds a b P → Adds b c Q → ((k : ℕ) → (P k || Q k) ≡ R k) → Adds a c R
+adds-then {a} {b} {c} {P} {Q} {R} x y e =
+    record {
+      long = y .long ∙ x .long;
+      marks = λ k l.
+          y .marks k (rw (x .long) l)
+          ∙ ap (markOf (Q (2 * k + 1))) (x .marks k l)
+          ∙ mark-or (P (2 * k + 1)) (Q (2 * k + 1)) (getD a k 0)
+          ∙ ap (λ (t : Bool). markOf t (getD a k 0)) (e (2 * k + 1));
+    }
+
+bit-or : (a b : Bool) → markOf b (bit a) ≡ bit (a || b)
+bit-or true true = refl
+bit-or true false = refl
+bit-or false true = refl
+bit-or false false = refl
+
+pub holds-then : {a b : List ℕ} {P Q R : ℕ → Bool} → Holds a P → Adds a b Q → ((k : ℕ) → (P k || Q k) ≡ R k) → Holds b R
+holds-then {a} {b} {P} {Q} {R} h x e =
+    record {
+      bits = λ k l.
+          let m : k < length a = rw (sym (x .long)) l in
+          x .marks k m ∙ ap (markOf (Q (2 * k + 1))) (h .bits k m) ∙ bit-or (P (2 * k + 1)) (Q (2 * k + 1)) ∙ ap bit (e (2 * k + 1));
+    }
+
+-- ---- bytes
+
+pub eqb-bit : (b : Bool) → eqb (bit b) 1 ≡ b
+eqb-bit true = refl
+eqb-bit false = refl
+
+-- what a byte of a map says
+pub marked-is : (ms : List ℕ) (P : ℕ → Bool) (c : ℕ) → Holds ms P → c % 2 ≡ 1 → c / 2 < length ms → marked ms c ≡ P c
+unfolding marked
+marked-is ms P c h o l =
+    let e : 2 * (c / 2) + 1 ≡ c = omega arith in
+    ap (λ (x : ℕ). eqb x 1) (h .bits (c / 2) l) ∙ eqb-bit (P (2 * (c / 2) + 1)) ∙ ap P e
+
+-- in the same words as the contracts: the map of a state says what one operation reaches
+pub reached-is : (L : ℕ) (map vals : List ℕ) (n c : ℕ) → State L map vals n → c % 2 ≡ 1 → c < 2 ^ L → marked map c ≡ reach? L (take n vals) c
+reached-is L map vals n c s o l =
+    marked-is map (λ c. reach? L (take n vals) c) c (s .reach) o (omega (arith, s .wide .1))
+
+pub zero-holds : (n : ℕ) → Holds (replicate n 0) (λ s. false)
+zero-holds n = record { bits = λ k l. getD-replicate n k 0 0 (rw (sym (length-replicate {A = ℕ} n 0)) l) }
+
+-- with nothing ready nothing is reached, so that a map of zeros is where `include` starts
+pub start : (L n : ℕ) (vals : List ℕ) → Wide L (replicate n 0) → State L (replicate n 0) vals 0
+unfolding reach?
+start L n vals w =
+    record {
+      wide = w;
+      values = (omega arith, λ i j. absurd (let z : i < 0 = j in omega arith));
+      reach = zero-holds n;
+    }
+
+-- 65536 bytes are enough for 17 bits
+pub wide-of : (L : ℕ) (ms : List ℕ) → L ≤ 17 → length ms ≡ 65536 → Wide L ms
+wide-of L ms h e = let m : 2 ^ L ≤ 2 ^ 17 = pow-mono h in (omega arith, omega arith)
+
+pub zeros-long : length (replicate {A = ℕ} 65536 0) ≡ 65536
+zeros-long = length-replicate {A = ℕ} 65536 0
+
+pub start-65536 : (L : ℕ) (vals : List ℕ) → L ≤ 17 → State L (replicate 65536 0) vals 0
+start-65536 L vals h = start L 65536 vals (wide-of L (replicate 65536 0) h zeros-long)
+
+-- ---- n without its trailing zeros
+
+module _ (L : ℕ) (ms new : List ℕ) (n : ℕ) where
+  pub mark-none : new ≡ ms → n ≡ 0 → Adds ms new (λ c. hits? L n c)
+  mark-none e z = adds-none e (λ k l t. let h = hit-outcome L n (2 * k + 1) t in omega arith)
+
+  pub mark-past : (m : ℕ) → new ≡ ms → m ≡ n / 2 ^ zeros n → 2 ^ L ≤ m → Adds ms new (λ c. hits? L n c)
+  mark-past m e q z = adds-none e (λ k l t. let h = hit-outcome L n (2 * k + 1) t in omega arith)
+
+  pub mark-one : (m : ℕ) → new ≡ set ms (m / 2) 1 → m ≡ n / 2 ^ zeros n → 0 < n → m < 2 ^ L → 2 ^ L ≤ 2 * length ms → Adds ms new (λ c. hits? L n c)
+  mark-one m e q p l w =
+      let o : n / 2 ^ zeros n % 2 ≡ 1 = zeros-left n p in
+      let h : 2 * (m / 2) + 1 ≡ n / 2 ^ zeros n = omega arith in
+      adds-one (m / 2) e (omega arith)
+      (outcome-hit L n (zeros n) (2 * (m / 2) + 1) (record { nonzero = p; shift = refl; value = h; below = omega arith }))
+      (λ k t. let h = hit-outcome L n (2 * k + 1) t .value in omega arith)
+
+-- ---- the sides
+
+or-assoc : (a b c : Bool) → ((a || b) || c) ≡ (a || (b || c))
+or-assoc true b c = refl
+or-assoc false b c = refl
+
+side-suc : (L u v l c : ℕ) → ((sideTo? L u v l c || hits? L (size u v 0 l 0) c) || hits? L (size u v 0 l 1) c) ≡ sideTo? L u v (l + 1) c
+unfolding sideTo? at?
+side-suc L u v l c =
+    or-assoc (sideTo? L u v l c) (hits? L (size u v 0 l 0) c) (hits? L (size u v 0 l 1) c)
+    ∙ ap (λ (n : ℕ). sideTo? L u v l c || at? L u v n c) (sym (zero-add l))
+    ∙ sym (any-up (λ n. at? L u v n c) 0 l)
+    ∙ ap (λ (n : ℕ). sideTo? L u v n c) (sym (add-one l))
+
+pub side-start : (L u v : ℕ) (ms : List ℕ) → Adds ms ms (λ c. sideTo? L u v 0 c)
+unfolding sideTo?
+side-start L u v ms = adds-none refl (λ k l t. t)
+
+pub side-more : (L u v l : ℕ) {a b c d : List ℕ} (x y : ℕ) → x ≡ size u v 0 l 0 → y ≡ size u v 0 l 1
+    → Adds a b (λ c. sideTo? L u v l c) → Adds b c (λ c. hits? L x c) → Adds c d (λ c. hits? L y c) → Adds a d (λ c. sideTo? L u v (l + 1) c)
+side-more L u v l x y e f p q r =
+    adds-then (adds-then p q (λ k. refl)) r
+    (λ k. ap₂ (λ (m n : ℕ). (sideTo? L u v l k || hits? L m k) || hits? L n k) e f ∙ side-suc L u v l k)
+
+-- ---- each value of a list
+
+any-snoc : (f : ℕ → Bool) (xs : List ℕ) (y : ℕ) → any f (xs ++ (y ∷ [])) ≡ (any f xs || f y)
+any-snoc f [] y = or-false (f y)
+  where
+    or-false : (b : Bool) → (b || false) ≡ b
+    or-false true = refl
+    or-false false = refl
+any-snoc f (x ∷ xs) y = ap (λ (b : Bool). f x || b) (any-snoc f xs y) ∙ sym (or-assoc (f x) (any f xs) (f y))
+
+pub with-start : (L v : ℕ) (xs ms : List ℕ) → Adds ms ms (λ c. with? L v (take 0 xs) c)
+unfolding with?
+with-start L v xs ms = adds-none refl (λ k l t. t)
+
+with-suc : (L v : ℕ) (xs : List ℕ) (i c : ℕ) → i < length xs → (with? L v (take i xs) c || oneOp? L v (getD xs i 0) c) ≡ with? L v (take (i + 1) xs) c
+unfolding with?
+with-suc L v xs i c h =
+    sym (any-snoc (λ u. oneOp? L v u c) (take i xs) (getD xs i 0))
+    ∙ ap (λ (l : List ℕ). with? L v l c) (sym (take-suc xs i 0 h))
+    ∙ ap (λ (n : ℕ). with? L v (take n xs) c) (sym (add-one i))
+
+pub with-more : (L v : ℕ) (xs : List ℕ) (i : ℕ) {a b c : List ℕ} → i < length xs
+    → Adds a b (λ c. with? L v (take i xs) c) → Adds b c (λ c. oneOp? L v (getD xs i 0) c) → Adds a c (λ c. with? L v (take (i + 1) xs) c)
+with-more L v xs i h p q = adds-then p q (λ k. with-suc L v xs i k h)
+
+-- a value below 2 ^ L is below 2 ^ 19
+pub small : (L n : ℕ) → L ≤ 19 → n < 2 ^ L → n < 2 ^ 19
+small L n h l = let m : 2 ^ L ≤ 2 ^ 19 = pow-mono h in omega arith
+
+-- ---- values taken twice
+
+odd-part : (q f : ℕ) → q * f % 2 ≡ 1 → q % 2 ≡ 1
+odd-part q f o = go (q % 2) refl
+  where
+    go : (d : ℕ) → q % 2 ≡ d → q % 2 ≡ 1
+    go zero e =
+        let h : q ≡ 2 * (q / 2) = omega arith in
+        let p : q * f ≡ 2 * (q / 2 * f) = ap (λ (x : ℕ). x * f) h ∙ mul-assoc 2 (q / 2) f in
+        absurd (omega arith)
+    go (suc d) e = omega arith
+
+module _ (ms new : List ℕ) (c f : ℕ) (o : c % 2 ≡ 1) (b : c < 2 * length ms) (p : 0 < f) where
+  pub factor-at : c / f / 2 < length ms
+  factor-at = omega (arith, div-le-self c f)
+
+  pub factor-one : new ≡ set ms (c / f / 2) 1 → c % f ≡ 0 → Adds ms new (λ s. eqb (s * f) c)
+  factor-one e z =
+      let w : c / f * f ≡ c = omega (arith, div-add-mod' c f) in
+      let q : c / f % 2 ≡ 1 = odd-part (c / f) f (rw w o) in
+      let n : 2 * (c / f / 2) + 1 ≡ c / f = omega arith in
+      adds-one (c / f / 2) e factor-at (eq→eqb _ _ (ap (λ (x : ℕ). x * f) n ∙ w))
+      (λ k t.
+      let g : (2 * k + 1) * f ≡ c = eqb→eq _ _ t in
+      let d : 2 * k + 1 ≡ c / f = sym (mul-div-cancel (2 * k + 1) p) ∙ ap (λ (x : ℕ). x / f) g in
+      omega arith)
+
+  pub factor-none : new ≡ ms → (c % f ≡ 0 → ⊥) → Adds ms new (λ s. eqb (s * f) c)
+  factor-none e z =
+      adds-none e (λ k l t.
+      let g : (2 * k + 1) * f ≡ c = eqb→eq _ _ t in
+      z (ap (λ (x : ℕ). x % f) (sym g) ∙ mul-mod-left (2 * k + 1) f))
+
+pub twice-start : (c : ℕ) (ms : List ℕ) → Adds ms ms (λ s. twice? 0 c s)
+unfolding twice?
+twice-start c ms = adds-none refl (λ k l t. t)
+
+twice-suc : (c l s x y : ℕ) → x ≡ 2 ^ (l + 1) - 1 → y ≡ 2 ^ (l + 1) + 1 → ((twice? l c s || eqb (s * x) c) || eqb (s * y) c) ≡ twice? (l + 1) c s
+unfolding twice? factor?
+twice-suc c l s x y e f =
+    let g : l + 1 ≡ 1 + l = omega arith in
+    or-assoc (twice? l c s) (eqb (s * x) c) (eqb (s * y) c)
+    ∙ ap₂ (λ (m n : ℕ). twice? l c s || (eqb (s * m) c || eqb (s * n) c)) e f
+    ∙ ap (λ (n : ℕ). twice? l c s || factor? c n s) g
+    ∙ sym (any-up (λ n. factor? c n s) 1 l)
+    ∙ ap (λ (n : ℕ). twice? n c s) (sym (add-one l))
+
+pub twice-more : (c l : ℕ) {ms a b d : List ℕ} (x y : ℕ) → x ≡ 2 ^ (l + 1) - 1 → y ≡ 2 ^ (l + 1) + 1
+    → Adds ms a (λ s. twice? l c s) → Adds a b (λ s. eqb (s * x) c) → Adds b d (λ s. eqb (s * y) c) → Adds ms d (λ s. twice? (l + 1) c s)
+twice-more c l x y e f p q r = adds-then (adds-then p q (λ k. refl)) r (λ k. twice-suc c l k x y e f)
+
+pub power-two : (l : ℕ) → 2 ≤ 2 ^ (l + 1)
+power-two l = pow-mono {i = 1} {j = l + 1} (omega arith)
+
+pub power-small : (l : ℕ) → l ≤ 19 → 2 ^ l ≤ 2 ^ 19
+power-small l h = pow-mono {i = l} {j = 19} h
+
+-- ---- one ready value more
+
+pub reach-more : (L : ℕ) (vals : List ℕ) (v : ℕ) {a b c : List ℕ} → Holds a (λ c. reach? L vals c)
+    → Adds a b (λ c. with? L v vals c) → Adds b c (λ c. sideTo? L v v (L + 1) c) → Holds c (λ c. reach? L (vals ++ (v ∷ [])) c)
+reach-more L vals v h p q =
+    holds-then h (adds-then p q (λ k. refl))
+    (λ k. ap (λ (t : Bool). reach? L vals k || (with? L v vals k || t)) (sym (one-self L v k)) ∙ sym (reach-add L vals v k))
+
+pub taken : (xs : List ℕ) (n v : ℕ) → n < length xs → take (n + 1) (set xs n v) ≡ take n xs ++ (v ∷ [])
+taken xs n v h = ap (λ (j : ℕ). take j (set xs n v)) (add-one n) ∙ take-suc-set xs n v h
+
+-- the value stored in its place, after `add`
+pub include-is : (L : ℕ) (map new vals : List ℕ) (n v : ℕ) → State L map vals n → n < length vals → v % 2 ≡ 1 → v < 2 ^ L
+    → length new ≡ length map → Holds new (λ c. reach? L (take n vals ++ (v ∷ [])) c) → State L new (set vals n v) (n + 1)
+include-is L map new vals n v s h o l e r =
+    record {
+      wide = (s .wide .0, omega (arith, s .wide .1));
+      values = (rw length-set (omega arith), λ i j. at i j (ℕ-discrete i n));
+      reach = subst (λ (xs : List ℕ). Holds new (λ c. reach? L xs c)) (sym (taken vals n v h)) r;
+    }
+  where
+    at : (i : ℕ) → i < n + 1 → Dec (i ≡ n) → (getD (set vals n v) i 0 % 2 ≡ 1) × (getD (set vals n v) i 0 < 2 ^ L)
+    at i j (yes q) = rw (q, getD-set-same vals n v 0 h) (o, l)
+    at i j (no q) = rw (getD-set-other vals n i v 0 q) (s .values .1 i (omega arith))

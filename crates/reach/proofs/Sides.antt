@@ -1,0 +1,163 @@
+-- One operation on two values is a hit on one of the two sides; and with one value more a list reaches what it did, and what that value makes
+-- with each of the list's values and with itself. Assumes nothing.
+use mathlib.Core.Path.{_≡_, refl, _∙_, subst}
+use mathlib.Core.Bool.{Bool, true, false, _||_}
+use mathlib.Core.List.{List, [], _∷_, _++_, List·Memᴰ, List·Memᴰ·head, List·Memᴰ·append-cases, List·Memᴰ·eq-of-singleton, Memᴰ·append-left, Memᴰ·append-right}
+use mathlib.Core.Logic.{_⊎_, inl, inr, ⊎-elim}
+use Prim.Native.Nat.{ℕ, zero, suc, _+_, _≤_, _<_}
+use native.Mathlib.Omega.{arith}
+use native.Mathlib.Decide.{ℕ-discrete}
+use lib.Dec.{T}
+use Rattle.meaning.specs.Basics.{any, upFrom, zeros}
+use Rattle.meaning.specs.Operation.{size, Outcome, Valid, Gives}
+use Rattle.meaning.specs.Distance.{oneOp?, reach?}
+use Rattle.meaning.proofs.Tests.{bool-ext, any-in, in-any, either-of, of-left, of-right, in-up, up-in}
+use Rattle.meaning.proofs.Operations.{outcome-of-test, test-of-outcome}
+use Rattle.meaning.proofs.Inverse.{valid-swap, gives-swap}
+use Rattle.meaning.proofs.Reach.{one-is, reach-is, reached-within}
+use Rattle.reach.specs.Sides.{hits?, at?, sideTo?, with?}
+
+of-either : (a b : Bool) → T a ⊎ T b → T (a || b)
+of-either a b (inl t) = of-left a b t
+of-either a b (inr t) = of-right a b t
+
+-- one value more at the end of a range
+pub any-up : (f : ℕ → Bool) (k n : ℕ) → any f (upFrom k (suc n)) ≡ (any f (upFrom k n) || f (k + n))
+any-up f k n = bool-ext (any f (upFrom k (suc n))) (any f (upFrom k n) || f (k + n)) there back
+  where
+    there : T (any f (upFrom k (suc n))) → T (any f (upFrom k n) || f (k + n))
+    there t = let (c, i, p) = any-in f (upFrom k (suc n)) t in go c p (up-in k (suc n) c i) (ℕ-discrete c (k + n))
+      where
+        go : (c : ℕ) → T (f c) → (k ≤ c) × (c < k + suc n) → Dec (c ≡ k + n) → T (any f (upFrom k n) || f (k + n))
+        go c p h (yes e) = of-right (any f (upFrom k n)) (f (k + n)) (subst (λ z. T (f z)) e p)
+        go c p h (no e) = of-left (any f (upFrom k n)) (f (k + n)) (in-any f (in-up k n c (h .0) (omega arith)) p)
+
+    back : T (any f (upFrom k n) || f (k + n)) → T (any f (upFrom k (suc n)))
+    back t =
+        ⊎-elim
+        (λ q. let (c, i, p) = any-in f (upFrom k n) q in let h = up-in k n c i in in-any f (in-up k (suc n) c (omega arith) (omega arith)) p)
+        (λ q. in-any f (in-up k (suc n) (k + n) (omega arith) (omega arith)) q)
+        (either-of (any f (upFrom k n)) (f (k + n)) t)
+
+-- ---- the sides
+
+pub hit-outcome : (L n c : ℕ) → T (hits? L n c) → Outcome L n (zeros n) c
+unfolding hits?
+hit-outcome L n c t = outcome-of-test L n (zeros n) c t
+
+pub outcome-hit : (L n r c : ℕ) → Outcome L n r c → T (hits? L n c)
+unfolding hits?
+outcome-hit L n r c k = test-of-outcome L n (zeros n) c (subst (λ z. Outcome L n z c) (k .shift) k)
+
+hit-gives : (L u v l s c : ℕ) → l ≤ L → s ≤ 1 → T (hits? L (size u v 0 l s) c) → Gives L u v c
+hit-gives L u v l s c h k t =
+    record {
+      l1 = 0;
+      l2 = l;
+      s = s;
+      r = _;
+      valid = record { left = omega arith; right = h; unshifted = omega arith; sign = k; outcome = hit-outcome L (size u v 0 l s) c t };
+    }
+
+side-of : (L u v c : ℕ) → T (sideTo? L u v (L + 1) c) → Gives L u v c
+unfolding sideTo? at?
+side-of L u v c t =
+    let (l, i, q) = any-in (λ l. at? L u v l c) (upFrom 0 (L + 1)) t in
+    let h = up-in 0 (L + 1) l i in
+    ⊎-elim
+    (λ p. hit-gives L u v l 0 c (omega arith) (omega arith) p)
+    (λ p. hit-gives L u v l 1 c (omega arith) (omega arith) p)
+    (either-of (hits? L (size u v 0 l 0) c) (hits? L (size u v 0 l 1) c) q)
+
+at-of : (L u v l s c : ℕ) → s ≤ 1 → T (hits? L (size u v 0 l s) c) → T (at? L u v l c)
+unfolding at?
+at-of L u v l zero c h t = of-left (hits? L (size u v 0 l 0) c) (hits? L (size u v 0 l 1) c) t
+at-of L u v l (suc zero) c h t = of-right (hits? L (size u v 0 l 0) c) (hits? L (size u v 0 l 1) c) t
+at-of L u v l (suc (suc s)) c h t = absurd (omega arith)
+
+of-side : (L u v l s r c : ℕ) → Valid L u v 0 l s r c → T (sideTo? L u v (L + 1) c)
+unfolding sideTo?
+of-side L u v l s r c k =
+    let h = k .right in
+    in-any (λ l. at? L u v l c) (in-up 0 (L + 1) l (omega arith) (omega arith))
+    (at-of L u v l s c (k .sign) (outcome-hit L (size u v 0 l s) r c (k .outcome)))
+
+sides-of : (L u v l1 l2 s r c : ℕ) → Valid L u v l1 l2 s r c → T (sideTo? L u v (L + 1) c) ⊎ T (sideTo? L v u (L + 1) c)
+sides-of L u v zero l2 s r c k = inl (of-side L u v l2 s r c k)
+sides-of L u v (suc l) zero s r c k = inr (of-side L v u (suc l) s r c (valid-swap L u v (suc l) 0 s r c k))
+sides-of L u v (suc l) (suc m) s r c k = absurd (let h = k .unshifted in omega arith)
+
+pub one-op-is : (L u v c : ℕ) → oneOp? L u v c ≡ (sideTo? L u v (L + 1) c || sideTo? L v u (L + 1) c)
+one-op-is L u v c = bool-ext (oneOp? L u v c) (sideTo? L u v (L + 1) c || sideTo? L v u (L + 1) c) there back
+  where
+    there : T (oneOp? L u v c) → T (sideTo? L u v (L + 1) c || sideTo? L v u (L + 1) c)
+    there t =
+        let g = one-is L u v c .0 t in
+        of-either (sideTo? L u v (L + 1) c) (sideTo? L v u (L + 1) c) (sides-of L u v (g .l1) (g .l2) (g .s) (g .r) c (g .valid))
+
+    back : T (sideTo? L u v (L + 1) c || sideTo? L v u (L + 1) c) → T (oneOp? L u v c)
+    back t =
+        one-is L u v c .1
+        (⊎-elim (λ p. side-of L u v c p) (λ p. gives-swap L v u c (side-of L v u c p))
+        (either-of (sideTo? L u v (L + 1) c) (sideTo? L v u (L + 1) c) t))
+
+-- an operation on one value twice
+pub one-self : (L v c : ℕ) → oneOp? L v v c ≡ sideTo? L v v (L + 1) c
+one-self L v c = one-op-is L v v c ∙ same (sideTo? L v v (L + 1) c)
+  where
+    same : (b : Bool) → (b || b) ≡ b
+    same true = refl
+    same false = refl
+
+-- ---- a list with one value more
+
+pub one-swap : (L u v c : ℕ) → T (oneOp? L u v c) → T (oneOp? L v u c)
+one-swap L u v c t = one-is L v u c .1 (gives-swap L u v c (one-is L u v c .0 t))
+
+pub reach-of : (L : ℕ) (vals : List ℕ) (c u v : ℕ) → List·Memᴰ u vals → List·Memᴰ v vals → T (oneOp? L u v c) → T (reach? L vals c)
+reach-of L vals c u v i j t = reach-is L vals c .1 (record { u = u; v = v; first = i; second = j; gives = one-is L u v c .0 t })
+
+with-of : (L : ℕ) (vals : List ℕ) (v c u : ℕ) → List·Memᴰ u vals → T (oneOp? L v u c) → T (with? L v vals c)
+unfolding with?
+with-of L vals v c u i t = in-any (λ u. oneOp? L v u c) i t
+
+pub reach-add : (L : ℕ) (vals : List ℕ) (v c : ℕ)
+    → reach? L (vals ++ (v ∷ [])) c ≡ (reach? L vals c || (with? L v vals c || oneOp? L v v c))
+unfolding with?
+reach-add L vals v c = bool-ext (reach? L (vals ++ (v ∷ [])) c) (reach? L vals c || (with? L v vals c || oneOp? L v v c)) there back
+  where
+    old : {a : ℕ} → List·Memᴰ a vals → List·Memᴰ a (vals ++ (v ∷ []))
+    old i = Memᴰ·append-left _ i
+
+    new : List·Memᴰ v (vals ++ (v ∷ []))
+    new = Memᴰ·append-right vals (List·Memᴰ·head refl)
+
+    back : T (reach? L vals c || (with? L v vals c || oneOp? L v v c)) → T (reach? L (vals ++ (v ∷ [])) c)
+    back t =
+        ⊎-elim
+        (λ p. reach-is L _ c .1 (reached-within L vals (vals ++ (v ∷ [])) c (λ a i. old i) (reach-is L vals c .0 p)))
+        (λ p.
+        ⊎-elim
+        (λ q. let (u, i, w) = any-in (λ u. oneOp? L v u c) vals q in reach-of L (vals ++ (v ∷ [])) c v u new (old i) w)
+        (λ q. reach-of L (vals ++ (v ∷ [])) c v v new new q)
+        (either-of (with? L v vals c) (oneOp? L v v c) p))
+        (either-of (reach? L vals c) (with? L v vals c || oneOp? L v v c) t)
+
+    there : T (reach? L (vals ++ (v ∷ [])) c) → T (reach? L vals c || (with? L v vals c || oneOp? L v v c))
+    there t =
+        let r = reach-is L (vals ++ (v ∷ [])) c .0 t in
+        which (r .u) (r .v) (one-is L (r .u) (r .v) c .1 (r .gives)) (List·Memᴰ·append-cases vals (r .first)) (List·Memᴰ·append-cases vals (r .second))
+      where
+        which : (a b : ℕ) → T (oneOp? L a b c) → List·Memᴰ a vals ⊎ List·Memᴰ a (v ∷ []) → List·Memᴰ b vals ⊎ List·Memᴰ b (v ∷ [])
+            → T (reach? L vals c || (with? L v vals c || oneOp? L v v c))
+        which a b w (inl i) (inl j) = of-left (reach? L vals c) _ (reach-of L vals c a b i j w)
+        which a b w (inl i) (inr j) =
+            of-right (reach? L vals c) _ (of-left (with? L v vals c) _
+            (with-of L vals v c a i (one-swap L a v c (subst (λ z. T (oneOp? L a z c)) (List·Memᴰ·eq-of-singleton j) w))))
+        which a b w (inr i) (inl j) =
+            of-right (reach? L vals c) _ (of-left (with? L v vals c) _
+            (with-of L vals v c b j (subst (λ z. T (oneOp? L z b c)) (List·Memᴰ·eq-of-singleton i) w)))
+        which a b w (inr i) (inr j) =
+            of-right (reach? L vals c) _ (of-right (with? L v vals c) _
+            (subst (λ z. T (oneOp? L z v c)) (List·Memᴰ·eq-of-singleton i)
+            (subst (λ z. T (oneOp? L a z c)) (List·Memᴰ·eq-of-singleton j) w)))
