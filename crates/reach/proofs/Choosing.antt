@@ -2,7 +2,7 @@
 -- operation gives the constant. Assumes nothing.
 use mathlib.Core.Path.{_≡_, refl, sym, ap, ap₂, _∙_}
 use mathlib.Core.Bool.{Bool, true, false, _||_, _&&_, cond}
-use mathlib.Core.List.{List, [], _∷_, map, List·Memᴰ, List·Memᴰ·not-nil, List·Memᴰ·cases-cons}
+use mathlib.Core.List.{List, [], _∷_, map, List·Memᴰ, List·Memᴰ·head, List·Memᴰ·tail, List·Memᴰ·not-nil, List·Memᴰ·cases-cons}
 use mathlib.Core.Logic.{⊎-elim}
 use mathlib.Core.Option.{Option, some, none}
 use Prim.Native.Nat.{ℕ, zero, suc, _+_, _-_, _*_, _%_, _^_, _≤_, _<_, min}
@@ -11,8 +11,8 @@ use native.Mathlib.Numerals.{add-one}
 use native.Mathlib.Omega.{arith}
 use lib.Dec.{eqb}
 use lib.ListN.{length, getD, take}
-use lib.Pow.{pow-pos}
-use Rattle.meaning.specs.Basics.{upFrom, firstSome}
+use lib.Pow.{pow-mono, pow-pos}
+use Rattle.meaning.specs.Basics.{any, upFrom, firstSome}
 use Rattle.meaning.specs.Distance.{reach?, serves?, candidates}
 use Rattle.meaning.proofs.Tests.{up-in}
 use Rattle.meaning.proofs.Inverse.{Odd}
@@ -102,6 +102,34 @@ pub candidates-all : (k L : ℕ) → 2 ^ (L - 1) ≤ k + 1 → take k (candidate
 unfolding candidates
 candidates-all k L h = candidates-take k L (2 ^ (L - 1)) (omega arith)
 
+-- 65535 is none at up to 17 bits
+pub ceiling : (L : ℕ) → L ≤ 17 → 2 ^ (L - 1) ≤ 65535 + 1
+ceiling L h = pow-mono {i = L - 1} {j = 16} (omega arith)
+
+-- ---- tests over a list
+
+any-same : (f g : ℕ → Bool) (xs : List ℕ) → ((x : ℕ) → List·Memᴰ x xs → f x ≡ g x) → any f xs ≡ any g xs
+any-same f g [] h = refl
+any-same f g (x ∷ xs) h = ap₂ _||_ (h x (List·Memᴰ·head refl)) (any-same f g xs (λ y i. h y (List·Memᴰ·tail i)))
+
+any-map : (f : ℕ → Bool) (g : ℕ → ℕ) (xs : List ℕ) → any f (map g xs) ≡ any (λ x. f (g x)) xs
+any-map f g [] = refl
+any-map f g (x ∷ xs) = ap (λ (t : Bool). f (g x) || t) (any-map f g xs)
+
+-- where a search stands: what is left decides
+pub any-start : (f : ℕ → Bool) (e : ℕ) → any f (upFrom 0 e) ≡ any f (upFrom 0 (e - 0))
+any-start f e = let z : e ≡ e - 0 = omega arith in ap (λ (n : ℕ). any f (upFrom 0 n)) z
+
+module _ (f : ℕ → Bool) (e k : ℕ) {t : Bool} (s : t ≡ any f (upFrom k (e - k))) where
+  pub any-pass : k < e → f k ≡ false → t ≡ any f (upFrom (k + 1) (e - (k + 1)))
+  any-pass h n = s ∙ ap (any f) (split k e h) ∙ ap (λ (b : Bool). b || any f (upFrom (k + 1) (e - (k + 1)))) n
+
+  pub any-hit : k < e → f k ≡ true → true ≡ t
+  any-hit h n = sym (s ∙ ap (any f) (split k e h) ∙ ap (λ (b : Bool). b || any f (upFrom (k + 1) (e - (k + 1)))) n)
+
+  pub any-end : e ≤ k → false ≡ t
+  any-end h = let z : e - k ≡ 0 = omega arith in sym (s ∙ ap (λ (n : ℕ). any f (upFrom k n)) z)
+
 -- ---- the maps hold what the definition asks
 
 module _ (lim L e : ℕ) (vals a b : List ℕ) (c : ℕ) (last : e ≡ min (2 ^ (L - 1)) (lim + 1))
@@ -133,6 +161,16 @@ module _ (lim L e : ℕ) (vals a b : List ℕ) (c : ℕ) (last : e ≡ min (2 ^ 
       (used-same (probe a b) (λ k. serving L vals c (2 * k + 1)) (upFrom 1 (e - 1)) probe-is
       ∙ sym (used-map (serving L vals c) (λ k. 2 * k + 1) (upFrom 1 (e - 1)))
       ∙ ap (used (serving L vals c)) (sym (candidates-take lim L e last)))
+
+  -- with no ceiling, both maps have some number marked exactly if some value serves, 1 included
+  pub met-is : 2 ^ (L - 1) ≤ lim + 1 → any (both? a b) (upFrom 0 e) ≡ any (serves? L vals c) (1 ∷ candidates L)
+  unfolding candidates
+  met-is h =
+      let p = pow-pos (L - 1) in
+      let n : e ≡ suc (2 ^ (L - 1) - 1) = omega arith in
+      any-same (both? a b) (λ k. serves? L vals c (2 * k + 1)) (upFrom 0 e) (λ k i. let l = up-in 0 e k i in both-is k (omega arith))
+      ∙ ap (λ (m : ℕ). any (λ k. serves? L vals c (2 * k + 1)) (upFrom 0 m)) n
+      ∙ ap (λ (t : Bool). serves? L vals c 1 || t) (sym (any-map (serves? L vals c) (λ k. 2 * k + 1) (upFrom 1 (2 ^ (L - 1) - 1))))
 
 -- a map of zeros with these marks
 pub serve-holds : (L : ℕ) (vals : List ℕ) (c : ℕ) {z b : List ℕ} → Holds z (λ s. false)

@@ -8,7 +8,6 @@ use Prim.Native.Nat.{ℕ, _+_, _-_, _^_, _≤_}
 use native.Mathlib.Omega.{arith}
 use lib.Dec.{T}
 use lib.ListN.{take}
-use lib.Pow.{pow-mono}
 use Rattle.meaning.specs.declared.Row.{Row}
 use Rattle.meaning.specs.Basics.{firstSome, andThen}
 use Rattle.meaning.specs.Distance.{reach?, serves?, candidates}
@@ -121,7 +120,3 @@ module _ (L : ℕ) (vals : List ℕ) (c k : ℕ) where
       let (a, b) = both-of (reach? L vals s) (reach? L (s ∷ vals) c) (serves-of s n e) in
       let (rows, q) = found (serve L vals (c, s)) (subst⁻¹ T (serve-got L vals c s) (serves-of s n e)) in
       serve-by L vals c s rows (reached-odd L vals s (reach-is L vals s .0 a)) q
-
--- no ceiling at up to 17 bits
-pub ceiling : (L : ℕ) → L ≤ 17 → 2 ^ (L - 1) ≤ 65535 + 1
-ceiling L h = pow-mono {i = L - 1} {j = 16} (omega arith)

@@ -5,8 +5,9 @@ ghost use mathlib.Core.List.{[], _∷_, _++_};
 ghost use Prim.Native.Nat.{_+_, _-_, _*_, _/_, _%_, _^_, _≤_, _<_, min};
 ghost use lib.Dec.{eqb};
 ghost use lib.ListN.{length, take};
+ghost use Rattle.meaning.specs.Basics.{any, upFrom};
 ghost use Rattle.meaning.specs.Operation.{size};
-ghost use Rattle.meaning.specs.Distance.{oneOp?, reach?};
+ghost use Rattle.meaning.specs.Distance.{oneOp?, reach?, serves?, candidates};
 ghost use Rattle.reach.specs.Sides.{hits?, sideTo?, with?, twice?};
 ghost use Rattle.reach.specs.Marks.{Holds, Adds, marked, Wide, Ready, State};
 ghost use Rattle.reach.specs.Choices.{both?, scanned, chosenIn};
@@ -184,6 +185,21 @@ fn smallest(reach: &[u8], serve: &[u8], end: usize) -> Choice
     Choice::Nothing { tried: tried }
 }
 
+// Both maps have some number below 2 × end marked.
+fn meet(a: &[u8], b: &[u8], end: usize) -> bool
+    requires { ⌜ (end ≤ length (now a)) × (end ≤ length (now b)) ⌝ }
+    ensures { λ r. ⌜ r ≡ any (both? (now (a .entry)) (now (b .entry))) (upFrom 0 end) ⌝ }
+{
+    let mut k: usize = 0;
+    while k < end {
+        if both(a, b, k) {
+            return true;
+        }
+        k += 1;
+    }
+    false
+}
+
 // Where the scan ends: after all odd numbers below 2^top, or after `limit` of 3, 5, ..
 fn last(top: u32, limit: u32) -> usize
     requires { ⌜ (1 ≤ top) × (top ≤ 19) ⌝ }
@@ -208,4 +224,16 @@ pub fn choose(reach: &[u8], top: u32, ready: &[u32], n: usize, c: u32, limit: u3
     let mut serve = [0u8; 65536];
     partners(&mut serve, top, ready, n, c);
     smallest(reach, &serve, end)
+}
+
+// Some s that one operation on the ready values reaches is such that with it one operation gives c. A ready list need not
+// hold 1, so s may be 1 too.
+pub fn served(reach: &[u8], top: u32, ready: &[u32], n: usize, c: u32) -> bool
+    requires { ⌜ State top (now reach) (now ready) n × (top ≤ 17) × (c % 2 ≡ 1) × (c < 2 ^ top)
+        × (reach? top (take n (now ready)) c ≡ false) ⌝ }
+    ensures { λ r. ⌜ r ≡ any (serves? top (take n (now (ready .entry))) c) (1 ∷ candidates top) ⌝ }
+{
+    let mut serve = [0u8; 65536];
+    partners(&mut serve, top, ready, n, c);
+    meet(reach, &serve, last(top, 65535))
 }
