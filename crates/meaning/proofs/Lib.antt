@@ -19,6 +19,7 @@ pub mod Fewest
 pub mod Products
 pub mod Placing
 pub mod Reach
+pub mod Scan
 pub mod Choices
 pub mod Wanted
 pub mod Rules

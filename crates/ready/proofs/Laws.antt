@@ -1,13 +1,10 @@
 -- What a ready set lists: how many values and which, of the set that starts, and of the set with one value more. Assumes nothing.
 use mathlib.Core.Path.{_≡_, refl, sym, ap, _∙_}
-use mathlib.Core.Bool.{Bool, true, false, cond}
-use mathlib.Core.List.{List, [], _∷_, _++_}
-use Prim.Native.Nat.{ℕ, suc, _+_, _≤_, _<_, min}
+use Prim.Native.Nat.{ℕ, _+_, _≤_, _<_, min}
 use native.Mathlib.Numerals.{add-one}
 use native.Mathlib.Omega.{arith}
 use borrow.Author.Tests.{lt-ltb, le-ltb}
-use lib.Dec.{ltb}
-use lib.ListN.{length, take, getD, set, length-set, length-take}
+use lib.ListN.{length, getD, set, length-set, length-take}
 use lib.Seq.{getD-take, take-suc-set}
 use Rattle.ready.specs.declared.Ready.{Ready}
 use Rattle.ready.specs.Listed.{room, listed, Fit, started, grown, Started, Added}
