@@ -24,7 +24,7 @@ list-at r i h = getD-take (r .count) (r .values) i 0 h
 
 pub start-is : Started started
 unfolding started
-start-is = record { is = refl; fit = record { places = refl; bound = omega arith }; list = refl }
+start-is = record { is = refl; fit = record { places = refl; bound = omega arith }; one = refl; list = refl }
 
 -- ---- one more
 
@@ -37,7 +37,7 @@ unfolding grown
 grown-full r v h = rw (le-ltb (r .count) room h)
 
 pub added-full : (r : Ready) (v : ℕ) → room ≤ r .count → Added r v r
-added-full r v h = record { is = sym (grown-full r v h); fit = λ f. f; list = λ l. absurd (omega arith) }
+added-full r v h = record { is = sym (grown-full r v h); fit = λ f. f; more = λ l. absurd (omega arith); list = λ l. absurd (omega arith) }
 
 pub added-room : (r : Ready) (v : ℕ) → length (r .values) ≡ room → r .count < room
     → Added r v (record { values = set (r .values) (r .count) v; count = r .count + 1 })
@@ -46,5 +46,6 @@ added-room r v e h =
     record {
       is = sym (grown-room r v h);
       fit = λ f. record { places = length-set (r .values) (r .count) v ∙ e; bound = omega arith };
+      more = λ _. refl;
       list = λ _. rw (add-one, take-suc-set);
     }

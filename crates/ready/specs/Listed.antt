@@ -32,10 +32,12 @@ grown r v = cond (ltb (r .count) room) (record { values = set (r .values) (r .co
 pub record Started (r : Ready) : Type 0 where
   pub is : r ≡ started
   pub fit : Fit r
+  pub one : r .count ≡ 1
   pub list : listed r ≡ 1 ∷ []
 
 -- where there was room, the list is longer by v
 pub record Added (old : Ready) (v : ℕ) (new : Ready) : Type 0 where
   pub is : new ≡ grown old v
   pub fit : Fit old → Fit new
+  pub more : old .count < room → new .count ≡ old .count + 1
   pub list : old .count < room → listed new ≡ listed old ++ (v ∷ [])
