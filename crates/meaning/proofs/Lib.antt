@@ -25,7 +25,7 @@ pub mod Wanted
 pub mod Rules
 pub mod Turn
 pub mod Remaining
-pub mod Drawn
+pub mod Generated
 pub mod Shortest
 pub mod Distances
 pub mod Steps

@@ -22,7 +22,7 @@ use Rattle.meaning.proofs.Operations.{valid-of-test, test-of-valid}
 pub one-answer : {A : Type 0} (d x y : A) → x ≡ d → y ≡ d → x ≡ y
 one-answer d x y a b = a ∙ sym b
 
-pub one-done : {A : Type 0} (a : Answer) (w before : List A) (r r′ : Answer) (after after′ : List A)
+pub one-done : {R A : Type 0} (a : R) (w before : List A) (r r′ : R) (after after′ : List A)
     → Done a w r before after → Done a w r′ before after′ → (r ≡ r′) × (after ≡ after′)
 one-done a w before r r′ after after′ d e = (d .answers ∙ sym (e .answers), d .writes ∙ sym (e .writes))
 

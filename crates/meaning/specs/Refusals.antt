@@ -10,6 +10,8 @@ use Rattle.meaning.specs.declared.Answer.{Answer}
 use Rattle.meaning.specs.declared.Answer.the-variants.{Accepted, Refused}
 use Rattle.meaning.specs.declared.Far.{Far}
 use Rattle.meaning.specs.declared.Far.the-variants as far
+use Rattle.meaning.specs.declared.Drawn.{Drawn}
+use Rattle.meaning.specs.declared.Drawn.the-variants as out
 use Rattle.meaning.specs.declared.Row.{Row}
 use Rattle.meaning.specs.declared.Refusal.{Refusal}
 use Rattle.meaning.specs.declared.Refusal.the-variants as no
@@ -61,6 +63,30 @@ toldNumber (Refused why) = number why
 abbrev pub toldPlace : Answer → ℕ
 toldPlace Accepted = 0
 toldPlace (Refused why) = placeOf why
+
+-- of a distance: 0, 1, 2 operations, and 3 for beyond
+abbrev pub farSteps : Far → ℕ
+farSteps far.Zero = 0
+farSteps far.One = 1
+farSteps far.Two = 2
+farSteps far.Beyond = 3
+farSteps (far.Refused why) = 0
+
+abbrev pub farAnswer : Far → Answer
+farAnswer far.Zero = Accepted
+farAnswer far.One = Accepted
+farAnswer far.Two = Accepted
+farAnswer far.Beyond = Accepted
+farAnswer (far.Refused why) = Refused why
+
+-- of the generator: its rows
+abbrev pub drawnRows : Drawn → ℕ
+drawnRows (out.Rows n) = n
+drawnRows (out.Refused why) = 0
+
+abbrev pub drawnAnswer : Drawn → Answer
+drawnAnswer (out.Rows n) = Accepted
+drawnAnswer (out.Refused why) = Refused why
 
 -- ---- the situations
 
@@ -182,7 +208,7 @@ distanceOrder b vals c = bitLimit b ∷ readyLength vals ∷ readyValues b vals 
 -- ---- what each call answers, and what it writes from the front of a lent slice of some room: nothing on refusal
 
 -- what a call that writes has done: its answer, and a lent slice's contents afterwards
-pub record Done {A : Type 0} (answer : Answer) (written : List A) (r : Answer) (before after : List A) : Type 0 where
+pub record Done {R A : Type 0} (answer : R) (written : List A) (r : R) (before after : List A) : Type 0 where
   pub answers : r ≡ answer
   pub writes : after ≡ over written before
 
@@ -219,6 +245,14 @@ rankingWritten b ts n w input room = given (ranked b ts n w input room) (ranking
 
 unfoldable pub drawn : ℕ → List ℤ → ℕ → Answer
 drawn b ts room = firstOf (generateOrder b ts room)
+
+abbrev pub orRows : Answer → ℕ → Drawn
+orRows Accepted n = out.Rows n
+orRows (Refused why) n = out.Refused why
+
+-- how many rows were drawn
+unfoldable pub drawnTold : ℕ → List ℤ → ℕ → Drawn
+drawnTold b ts room = orRows (drawn b ts room) (length (generated b ts))
 
 unfoldable pub rowsWritten : ℕ → List ℤ → ℕ → List ℕ
 rowsWritten b ts room = given (drawn b ts room) (flat (generated b ts))

@@ -21,7 +21,7 @@ use Rattle.meaning.specs.Refusals.{mostRows, admitOrder, generateOrder, admitte
 use Rattle.meaning.proofs.Stages.{first-accepts, all-accept, need-accepts}
 use Rattle.meaning.proofs.Canonic.{canonic-is}
 use Rattle.meaning.proofs.Wanted.{wanted-in, in-wanted, wanted-ascending}
-use Rattle.meaning.proofs.Drawn.{generated-accepted, drawn-writes}
+use Rattle.meaning.proofs.Generated.{generated-accepted, drawn-writes}
 use Rattle.meaning.proofs.Remaining.{generated-few}
 use Rattle.meaning.proofs.Shortest.{fewest}
 use Rattle.meaning.proofs.Distances.{distance-zero, distance-one, distance-two, distance-beyond, distance-told}
