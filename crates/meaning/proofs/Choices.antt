@@ -138,10 +138,10 @@ row-got L vals x f = go (decLe (x .u) (x .v))
 
 -- ---- a row is found exactly if one operation reaches the value
 
-getD-in : (xs : List ℕ) (i : ℕ) → i < length xs → List·Memᴰ (getD xs i 0) xs
-getD-in [] i h = absurd (omega arith)
-getD-in (x ∷ xs) zero h = List·Memᴰ·head refl
-getD-in (x ∷ xs) (suc i) h = List·Memᴰ·tail (getD-in xs i (omega arith))
+pub getD-in {ℓ} : {A : Type ℓ} (xs : List A) (i : ℕ) (d : A) → i < length xs → List·Memᴰ (getD xs i d) xs
+getD-in [] i d h = absurd (omega arith)
+getD-in (x ∷ xs) zero d h = List·Memᴰ·head refl
+getD-in (x ∷ xs) (suc i) d h = List·Memᴰ·tail (getD-in xs i d (omega arith))
 
 in-getD : {xs : List ℕ} {u : ℕ} → List·Memᴰ u xs → (i : ℕ) × (i < length xs) × (u ≡ getD xs i 0)
 in-getD (List·Memᴰ·head e) = (0, omega arith, e)
@@ -152,8 +152,8 @@ fits-reached L vals x f =
     record {
       u = getD vals (x .u) 0;
       v = getD vals (x .v) 0;
-      first = getD-in vals (x .u) (f .first);
-      second = getD-in vals (x .v) (f .second);
+      first = getD-in vals (x .u) 0 (f .first);
+      second = getD-in vals (x .v) 0 (f .second);
       gives = record { l1 = x .l1; l2 = x .l2; s = x .s; r = x .r; valid = f .operation };
     }
 

@@ -68,6 +68,11 @@ unfolding rows flat
 rows-flat [] = refl
 rows-flat (x ∷ xs) = ap (λ l. x ∷ l) (rows-flat xs)
 
+pub flat-append : (xs ys : List Row) → flat (xs ++ ys) ≡ flat xs ++ flat ys
+unfolding flat
+flat-append [] ys = refl
+flat-append (x ∷ xs) ys = ap (λ l. words x ++ l) (flat-append xs ys)
+
 pub length-flat : (xs : List Row) → length (flat xs) ≡ rowLength * length xs
 unfolding flat
 length-flat [] = refl

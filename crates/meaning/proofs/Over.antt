@@ -35,6 +35,31 @@ module _ {A : Type 0} where
       rw (take-at new (drop (length new) old) n e, drop-at new (drop (length new) old) n e, drop-drop (length more) (length new) old, length-append new more)
       (sym (append-assoc new more (drop (length new + length more) old)))
 
+  pub length-after : (n : ℕ) (new old : List A) → n + length new ≤ length old → length (after n new old) ≡ length old
+  unfolding after over
+  length-after n new old h = simp (length-append, length-drop, length-take-le n old (omega arith)) (omega arith)
+
+  -- the same behind what was written from place n on
+  pub after-part : (n m : ℕ) (new more old : List A) → n ≤ length old → n + length new ≡ m → after m more (after n new old) ≡ after n (new ++ more) old
+  unfolding after over
+  after-part n m new more old h e =
+      rw (take-two, drop-two) (append-assoc (take n old) new _ ∙ ap (λ l. take n old ++ l) (ap (λ l. new ++ (more ++ l)) rest ∙ sym (append-assoc new more _)))
+    where
+      front : List A
+      front = take n old ++ new
+
+      long : length front ≡ m
+      long = rw (length-append (take n old) new, length-take-le n old h) e
+
+      take-two : take m (take n old ++ (new ++ drop (length new) (drop n old))) ≡ front
+      take-two = ap (take m) (sym (append-assoc (take n old) new _)) ∙ take-at front (drop (length new) (drop n old)) m long
+
+      drop-two : drop m (take n old ++ (new ++ drop (length new) (drop n old))) ≡ drop (length new) (drop n old)
+      drop-two = ap (drop m) (sym (append-assoc (take n old) new _)) ∙ drop-at front (drop (length new) (drop n old)) m long
+
+      rest : drop (length more) (drop (length new) (drop n old)) ≡ drop (length (new ++ more)) (drop n old)
+      rest = drop-drop (length more) (length new) (drop n old) ∙ ap (λ k. drop k (drop n old)) (sym (length-append new more))
+
   pub after-none : (n : ℕ) (old : List A) → after n [] old ≡ old
   unfolding after over
   after-none n old = take-append-drop n old

@@ -28,7 +28,7 @@ start-is = record { is = refl; fit = record { places = refl; bound = omega arith
 
 -- ---- one more
 
-grown-room : (r : Ready) (v : ℕ) → r .count < room → grown r v ≡ record { values = set (r .values) (r .count) v; count = r .count + 1 }
+pub grown-room : (r : Ready) (v : ℕ) → r .count < room → grown r v ≡ record { values = set (r .values) (r .count) v; count = r .count + 1 }
 unfolding grown
 grown-room r v h = rw (lt-ltb (r .count) room h)
 

@@ -1,0 +1,53 @@
+-- A graph that grows row by row: its rows' words in front of a lent slice, its ready set, and the map of what one operation reaches. Assumes nothing.
+use mathlib.Core.Path.{_≡_}
+use mathlib.Core.Bool.{cond}
+use mathlib.Core.List.{List, [], _∷_, _++_, List·Memᴰ}
+use mathlib.Core.Option.{Option, some, none}
+use Prim.Native.Nat.{ℕ, _+_, _-_, _*_, _%_, _^_, _≤_, _<_}
+use lib.ListN.{length}
+use Rattle.meaning.specs.declared.Prefix.{Prefix}
+use Rattle.meaning.specs.declared.Row.{Row}
+use Rattle.meaning.specs.Basics.{has, indexFrom, after}
+use Rattle.meaning.specs.Graph.{rowLength, flat, values}
+use Rattle.meaning.specs.Digits.{prefixes}
+use Rattle.meaning.specs.Refusals.{mostRows}
+use Rattle.ready.specs.declared.Ready.{Ready}
+use Rattle.ready.specs.Listed.{room, listed, Fit}
+use Rattle.reach.specs.Marks.{State}
+
+-- a value that a row can have
+abbrev pub Odd : ℕ → ℕ → Type 0
+Odd L v = (v % 2 ≡ 1) × (v < 2 ^ L)
+
+-- n rows more have room
+pub record Open (L : ℕ) (set : Ready) (map out : List ℕ) (n : ℕ) : Type 0 where
+  pub fit : Fit set
+  pub some : 1 ≤ set .count
+  pub state : State L map (set .values) (set .count)
+  pub space : set .count + n ≤ room
+  pub words : rowLength * mostRows ≤ length out
+
+-- the rows xs have been added: their words stand behind those before, and nothing else is changed
+pub record Grown (L : ℕ) (old : Ready) (xs : List Row) (new : Ready) (map before now : List ℕ) : Type 0 where
+  pub fit : Fit new
+  pub state : State L map (new .values) (new .count)
+  pub count : new .count ≡ old .count + length xs
+  pub lists : listed new ≡ listed old ++ values xs
+  pub writes : now ≡ after (rowLength * (old .count - 1)) (flat xs) before
+
+-- one row or none
+abbrev pub atMostOne : Option Row → List Row
+atMostOne none = []
+atMostOne (some x) = x ∷ []
+
+-- step C's row of a prefix
+abbrev pub prefixRow : List ℕ → Prefix → Row
+prefixRow vals p = record { u = indexFrom 0 vals (p .before); v = 0; l1 = p .gap; l2 = 0; s = p .s; r = 0; value = p .value }
+
+unfoldable pub prefixRows : List ℕ → Prefix → List Row
+prefixRows vals p = cond (has vals (p .value)) [] (prefixRow vals p ∷ [])
+
+-- what step C can serve
+pub record Servable (L c : ℕ) : Type 0 where
+  pub odd : Odd L c
+  pub steps : (p : Prefix) → List·Memᴰ p (prefixes c) → Odd L (p .value)
