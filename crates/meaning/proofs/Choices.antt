@@ -138,7 +138,7 @@ row-got L vals x f = go (decLe (x .u) (x .v))
 
 -- ---- a row is found exactly if one operation reaches the value
 
-getD-in : (xs : List ℕ) (i : ℕ) → i < length xs → List·Memᴰ (getD xs i 0) xs
+pub getD-in : (xs : List ℕ) (i : ℕ) → i < length xs → List·Memᴰ (getD xs i 0) xs
 getD-in [] i h = absurd (omega arith)
 getD-in (x ∷ xs) zero h = List·Memᴰ·head refl
 getD-in (x ∷ xs) (suc i) h = List·Memᴰ·tail (getD-in xs i (omega arith))
