@@ -63,10 +63,10 @@ fn fill(map: &mut [u8], top: u32, vals: &[u32])
     requires { ⌜ State top (now map) (now vals) 0 × Ready top (now vals) (length (now vals)) ⌝ }
     ensures { λ _. ⌜ State top (now (map .exit)) (now (vals .entry)) (length (now (vals .entry))) ⌝ }
 {
-    let mut i = 0;
-    while i < vals.len() {
-        reach::add(map, top, vals, i, vals[i]);
-        i += 1;
+    let mut n = 0;
+    while n < vals.len() {
+        reach::add(map, top, vals, n, vals[n]);
+        n += 1;
     }
 }
 
