@@ -1,15 +1,16 @@
-// Distance: the refusals of a ready list, a bit limit and a target.
+// Distance: how many operations make a target from a ready list, and the refusals of the call.
 use meaning::Answer;
+use meaning::Far;
 use meaning::Refusal;
 ghost use mathlib.Core.Path.{_≡_};
-ghost use mathlib.Core.Bool.{_&&_};
-ghost use mathlib.Core.List.{[], _∷_};
-ghost use Prim.Native.Nat.{_%_, _^_, _≤_};
+ghost use mathlib.Core.Bool.{false, _&&_};
+ghost use Prim.Native.Nat.{_%_, _^_, _≤_, _<_};
 ghost use lib.Dec.{eqb, ltb};
 ghost use lib.ListN.{length};
-ghost use Rattle.meaning.specs.Basics.{all};
-ghost use Rattle.meaning.specs.Limits.{limit};
-ghost use Rattle.meaning.specs.Refusals.{mostRows, readyValues, distanceOrder, firstOf};
+ghost use Rattle.meaning.specs.Basics.{has};
+ghost use Rattle.meaning.specs.Distance.{distance as Distance·distance};
+ghost use Rattle.meaning.specs.Refusals.{readyValues, distanceOrder, firstOf, distanceTold};
+ghost use Rattle.reach.specs.Marks.{Ready, State};
 
 // v is odd and below 2^l.
 fn odd_below(v: u32, l: u32) -> bool
@@ -55,4 +56,61 @@ pub fn admit(b: u32, vals: &[u32], c: u32) -> Answer
         return Answer::Refused(Refusal::Target);
     }
     values
+}
+
+// The map of what one operation on the values reaches.
+fn fill(map: &mut [u8], top: u32, vals: &[u32])
+    requires { ⌜ State top (now map) (now vals) 0 × Ready top (now vals) (length (now vals)) ⌝ }
+    ensures { λ _. ⌜ State top (now (map .exit)) (now (vals .entry)) (length (now (vals .entry))) ⌝ }
+{
+    let mut n = 0;
+    while n < vals.len() {
+        reach::add(map, top, vals, n, vals[n]);
+        n += 1;
+    }
+}
+
+// c is in the list.
+fn listed(vals: &[u32], c: u32) -> bool
+    ensures { λ r. ⌜ r ≡ has (now (vals .entry)) c ⌝ }
+{
+    let mut i = 0;
+    while i < vals.len() {
+        if vals[i] == c {
+            return true;
+        }
+        i += 1;
+    }
+    false
+}
+
+// One operation, two, or more.
+fn beyond_zero(top: u32, vals: &[u32], c: u32) -> Far
+    requires { ⌜ (top ≤ 17) × Ready top (now vals) (length (now vals)) × (c % 2 ≡ 1) × (c < 2 ^ top)
+        × (has (now vals) c ≡ false) ⌝ }
+    ensures { λ r. ⌜ r ≡ Distance·distance top (now (vals .entry)) c ⌝ }
+{
+    let mut map = [0u8; 65536];
+    fill(&mut map, top, vals);
+    if reach::reached(&map, c) {
+        return Far::One;
+    }
+    if reach::served(&map, top, vals, vals.len(), c) {
+        return Far::Two;
+    }
+    Far::Beyond
+}
+
+// The distance of c from the ready list, or the refusal.
+pub fn distance(b: u32, vals: &[u32], c: u32) -> Far
+    ensures { λ r. ⌜ r ≡ distanceTold b (now (vals .entry)) c ⌝ }
+{
+    let answer = admit(b, vals, c);
+    if let Answer::Refused(why) = answer {
+        return Far::Refused(why);
+    }
+    if listed(vals, c) {
+        return Far::Zero;
+    }
+    beyond_zero(b + 1, vals, c)
 }

@@ -1,20 +1,27 @@
--- Distance as statements: what each answer says, both ways; and only the list's members count, so that repeats change nothing. Assumes nothing.
+-- Distance as statements: what each answer says, both ways; only the list's members count, so that repeats change nothing; and what a call that is
+-- not refused was asked. Assumes nothing.
 use mathlib.Core.Path.{_≡_, refl, ap, _∙_}
-use mathlib.Core.Bool.{Bool, true, false, cond}
-use mathlib.Core.List.{List, _∷_, List·Memᴰ, List·Memᴰ·head, List·Memᴰ·tail, List·Memᴰ·cases-cons}
+use mathlib.Core.Bool.{Bool, true, false, _&&_, cond}
+use mathlib.Core.List.{List, [], _∷_, List·Memᴰ, List·Memᴰ·head, List·Memᴰ·tail, List·Memᴰ·cases-cons}
 use mathlib.Core.Logic.{⊎-elim, _↔_}
-use Prim.Native.Nat.{ℕ}
+use Prim.Native.Nat.{ℕ, _+_, _%_, _^_, _≤_}
 use native.Mathlib.Omega.{arith}
 use native.Mathlib.Decide.{ℕ-discrete}
-use lib.Dec.{T}
-use Rattle.meaning.specs.declared.Answer.the-variants.{Accepted}
+use lib.Dec.{T, leb, ltb, eqb, leb→le, ltb→lt, eqb→eq}
+use lib.ListN.{length}
+use Rattle.meaning.specs.declared.Answer.the-variants.{Accepted, Refused}
 use Rattle.meaning.specs.declared.Far.{Far}
 use Rattle.meaning.specs.declared.Far.the-variants.{Zero, One, Two, Beyond}
+use Rattle.meaning.specs.declared.Far.the-variants as far
+use Rattle.meaning.specs.declared.Refusal.{Refusal}
+use Rattle.meaning.specs.declared.Refusal.the-variants as no
 use Rattle.meaning.specs.Basics.{any, has}
 use Rattle.meaning.specs.Distance.{reach?, serves?, candidates, distance, Reached, ReachedTwice}
 use Rattle.meaning.specs.Limits.{limit}
-use Rattle.meaning.specs.Refusals.{firstOf, distanceOrder, orFar, distanceTold}
-use Rattle.meaning.proofs.Tests.{both-of, of-both, any-in, in-any, true-of, bool-ext}
+use Rattle.meaning.specs.Refusals.{mostRows, firstOf, distanceOrder, orFar, distanceTold}
+use Rattle.meaning.proofs.Tests.{both-of, of-both, any-in, in-any, every-in, true-of, bool-ext}
+use Rattle.meaning.proofs.Stages.{first-accepts, need-accepts, each-accepts}
+use Rattle.meaning.proofs.Inverse.{Odd}
 use Rattle.meaning.proofs.Reach.{in-has, has-in, Within, in-candidates, reach-is, reached-odd, reached-within, reach-same}
 
 -- ---- the test for two operations
@@ -159,3 +166,30 @@ distance-same L xs ys c h k =
 pub distance-told : (b : ℕ) (vals : List ℕ) (c : ℕ) → firstOf (distanceOrder b vals c) ≡ Accepted → distanceTold b vals c ≡ distance (limit b) vals c
 unfolding distanceTold
 distance-told b vals c e = ap (λ a. orFar a (distance (limit b) vals c)) e
+
+-- and a refusal is told
+pub distance-refused : (b : ℕ) (vals : List ℕ) (c : ℕ) (why : Refusal) → firstOf (distanceOrder b vals c) ≡ Refused why → distanceTold b vals c ≡ far.Refused why
+unfolding distanceTold
+distance-refused b vals c why e = ap (λ a. orFar a (distance (limit b) vals c)) e
+
+-- a bit limit, a ready list and a target that are not refused
+pub record Askable (b : ℕ) (vals : List ℕ) (c : ℕ) : Type 0 where
+  pub bits : (2 ≤ b) × (b ≤ 16)
+  pub list : (1 ≤ length vals) × (length vals ≤ mostRows + 1)
+  pub values : (v : ℕ) → List·Memᴰ v vals → Odd (limit b) v
+  pub target : Odd b c
+
+pub askable-of : (b : ℕ) (vals : List ℕ) (c : ℕ) → firstOf (distanceOrder b vals c) ≡ Accepted → Askable b vals c
+askable-of b vals c e =
+    let (s1, (s2, (s3, (s4, _)))) = first-accepts (distanceOrder b vals c) e in
+    let q1 = need-accepts no.Bits (leb 2 b ∷ leb b 16 ∷ []) s1 in
+    let q2 = need-accepts (no.Ready 0) (leb 1 (length vals) ∷ leb (length vals) (mostRows + 1) ∷ []) s2 in
+    let q4 = need-accepts no.Target (eqb (c % 2) 1 ∷ ltb c (2 ^ b) ∷ []) s4 in
+    record {
+      bits = omega (arith, leb→le);
+      list = omega (arith, leb→le);
+      values = λ v i.
+          let p = both-of (eqb (v % 2) 1) (ltb v (2 ^ limit b)) (every-in (λ v. eqb (v % 2) 1 && ltb v (2 ^ limit b)) (each-accepts no.Ready _ 1 vals s3) i) in
+          (eqb→eq _ _ (p .0), ltb→lt _ _ (p .1));
+      target = (eqb→eq _ _ (q4 .0), ltb→lt _ _ (q4 .1 .0));
+    }

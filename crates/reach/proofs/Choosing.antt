@@ -16,13 +16,14 @@ use Rattle.meaning.specs.Basics.{any, upFrom, firstSome}
 use Rattle.meaning.specs.Distance.{reach?, serves?, candidates}
 use Rattle.meaning.proofs.Tests.{up-in}
 use Rattle.meaning.proofs.Inverse.{Odd}
+use Rattle.meaning.proofs.Scan.{first-none, first-some, first-map}
 use Rattle.reach.specs.declared.Choice.the-variants.{At, Nothing}
 use Rattle.reach.specs.Sides.{with?, twice?}
 use Rattle.reach.specs.Marks.{Holds, Adds, Ready}
 use Rattle.reach.specs.Choices.{used, serving, pick, chosenIn, both?, probe, scanned}
 use Rattle.reach.proofs.Marks.{holds-then, eqb-bit}
 use Rattle.reach.proofs.Serves.{AllOdd, some-bits, serves-is}
-use Rattle.reach.proofs.Scan.{first-none, first-some, used-none, used-some, first-same, used-same, first-map, used-map}
+use Rattle.reach.proofs.Scan.{used-none, used-some, first-same, used-same, used-map}
 
 -- ---- the scan
 

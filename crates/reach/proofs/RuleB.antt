@@ -16,10 +16,11 @@ use Rattle.meaning.proofs.Choices.{found, first-from, then-from}
 use Rattle.meaning.proofs.Inverse.{Odd}
 use Rattle.meaning.proofs.Reach.{reach-is, reached-odd}
 use Rattle.meaning.proofs.Rules.{serve-got}
+use Rattle.meaning.proofs.Scan.{step, first-step, first-append, first-map}
 use Rattle.meaning.proofs.Tests.{both-of, T-of}
 use Rattle.reach.specs.declared.Choice.the-variants.{At, Nothing}
 use Rattle.reach.specs.Choices.{used, serving, pick, chosenIn}
-use Rattle.reach.proofs.Scan.{step, first-step, first-append, first-map, first-take, through, first-through, used-through}
+use Rattle.reach.proofs.Scan.{first-take, through, first-through, used-through}
 use Rattle.reach.proofs.Choosing.{candidates-all}
 
 -- ---- over a list of constants

@@ -1,19 +1,16 @@
 -- The first member that gives something, and how many are looked at: member by member, over parts of a list, and by a test. Assumes nothing.
 use mathlib.Core.Path.{_≡_, refl, sym, ap, ap₂, _∙_}
 use mathlib.Core.Bool.{Bool, true, false, cond}
-use mathlib.Core.List.{List, [], _∷_, _++_, map, List·Memᴰ, List·Memᴰ·head, List·Memᴰ·tail}
+use mathlib.Core.List.{List, [], _∷_, map, List·Memᴰ, List·Memᴰ·head, List·Memᴰ·tail}
 use mathlib.Core.Option.{Option, some, none}
-use Prim.Native.Nat.{ℕ, zero, suc, _+_, _≤_}
+use Prim.Native.Nat.{ℕ, zero, suc, _≤_}
 use native.Mathlib.Omega.{arith}
 use lib.ListN.{length, take}
 use Rattle.meaning.specs.Basics.{firstSome, andThen}
 use Rattle.meaning.proofs.Tests.{T-of}
 use Rattle.meaning.proofs.Choices.{got, found}
+use Rattle.meaning.proofs.Scan.{step, first-step, first-none, first-some}
 use Rattle.reach.specs.Choices.{used}
-
-abbrev pub step {κ} : {B : Type κ} → Option B → Option B → Option B
-step none r = r
-step (some b) r = some b
 
 abbrev count {κ} : {B : Type κ} → Option B → ℕ → ℕ
 count none r = suc r
@@ -22,14 +19,6 @@ count (some b) r = 1
 -- ---- member by member
 
 module _ {ℓ κ} {A : Type ℓ} {B : Type κ} (f : A → Option B) where
-  pub first-step : (x : A) (xs : List A) → firstSome f (x ∷ xs) ≡ step (f x) (firstSome f xs)
-  unfolding firstSome
-  first-step x xs = go (f x)
-    where
-      go : (o : Option B) → elim o as (λ _. Option B) [ none ↦ firstSome f xs | some b ↦ some b ] ≡ step o (firstSome f xs)
-      go none = refl
-      go (some b) = refl
-
   used-step : (x : A) (xs : List A) → used f (x ∷ xs) ≡ count (f x) (used f xs)
   unfolding used
   used-step x xs = go (f x)
@@ -37,12 +26,6 @@ module _ {ℓ κ} {A : Type ℓ} {B : Type κ} (f : A → Option B) where
       go : (o : Option B) → elim o as (λ _. ℕ) [ none ↦ suc (used f xs) | some b ↦ 1 ] ≡ count o (used f xs)
       go none = refl
       go (some b) = refl
-
-  pub first-none : (x : A) (xs : List A) → f x ≡ none → firstSome f (x ∷ xs) ≡ firstSome f xs
-  first-none x xs e = first-step x xs ∙ ap (λ o. step o (firstSome f xs)) e
-
-  pub first-some : (x : A) (xs : List A) (b : B) → f x ≡ some b → firstSome f (x ∷ xs) ≡ some b
-  first-some x xs b e = first-step x xs ∙ ap (λ o. step o (firstSome f xs)) e
 
   pub used-none : (x : A) (xs : List A) → f x ≡ none → used f (x ∷ xs) ≡ suc (used f xs)
   used-none x xs e = used-step x xs ∙ ap (λ o. count o (used f xs)) e
@@ -62,16 +45,6 @@ module _ {ℓ κ} {A : Type ℓ} {B : Type κ} (f : A → Option B) where
 -- ---- parts of a list
 
 module _ {ℓ κ} {A : Type ℓ} {B : Type κ} (f : A → Option B) where
-  pub first-append : (xs ys : List A) → firstSome f (xs ++ ys) ≡ step (firstSome f xs) (firstSome f ys)
-  first-append [] ys = unfold firstSome in refl
-  first-append (x ∷ xs) ys =
-      first-step f x (xs ++ ys) ∙ ap (step (f x)) (first-append xs ys) ∙ assoc (f x) (firstSome f xs) (firstSome f ys)
-      ∙ ap (λ o. step o (firstSome f ys)) (sym (first-step f x xs))
-    where
-      assoc : (a b c : Option B) → step a (step b c) ≡ step (step a b) c
-      assoc none b c = refl
-      assoc (some a) b c = refl
-
   -- what is found among the first k is what is found
   pub first-take : (k : ℕ) (xs : List A) (b : B) → firstSome f (take k xs) ≡ some b → firstSome f xs ≡ some b
   first-take zero xs b e = absurd (unfold firstSome in (let z : _≡_ {A = ℕ} 0 1 = cc in omega arith))
@@ -84,10 +57,6 @@ module _ {ℓ κ} {A : Type ℓ} {B : Type κ} (f : A → Option B) where
 
 -- over a mapped list
 module _ {ℓ κ ι} {A : Type ℓ} {B : Type κ} {C : Type ι} (f : A → Option B) (g : C → A) where
-  pub first-map : (xs : List C) → firstSome f (map g xs) ≡ firstSome (λ k. f (g k)) xs
-  first-map [] = unfold firstSome in refl
-  first-map (x ∷ xs) = first-step f (g x) (map g xs) ∙ ap (step (f (g x))) (first-map xs) ∙ sym (first-step (λ k. f (g k)) x xs)
-
   pub used-map : (xs : List C) → used f (map g xs) ≡ used (λ k. f (g k)) xs
   used-map [] = unfold used in refl
   used-map (x ∷ xs) = used-step f (g x) (map g xs) ∙ ap (count (f (g x))) (used-map xs) ∙ sym (used-step (λ k. f (g k)) x xs)

@@ -1,0 +1,91 @@
+-- `distance` meets its contract: the refusal, or the distance under the limit. What is not refused has odd values below 2^(b+1) and an odd target
+-- below 2^b, and b at most 16, as `beyond_zero` asks. Assumes nothing.
+use mathlib.Core.Path.{_≡_, sym, _∙_}
+use mathlib.Core.Bool.{true}
+use mathlib.Core.List.{List}
+use Prim.Native.Nat.{ℕ, _+_, _^_, _≤_}
+use native.Mathlib.Omega.{arith}
+use borrow.Author.Needs.{needs}
+use lib.ListN.{length}
+use lib.Pow.{pow-mono}
+use Rattle.meaning.specs.declared.Far.the-variants.{Zero}
+use Rattle.meaning.specs.Basics.{has}
+use Rattle.meaning.specs.Distance.{distance}
+use Rattle.meaning.specs.Limits.{limit}
+use Rattle.meaning.specs.Refusals.{distanceTold}
+use Rattle.meaning.proofs.Choices.{getD-in}
+use Rattle.meaning.proofs.Distances.{distance-told, distance-refused, Askable, askable-of}
+use Rattle.reach.specs.Marks.{Ready}
+use Rattle.distance.proofs.distance.Statement.{statement}
+use Rattle.distance.proofs.distance.Tie as tie
+
+ready : (b : ℕ) (vals : List ℕ) (c : ℕ) → Askable b vals c → Ready (limit b) vals (length vals)
+ready b vals c q = (omega arith, λ i h. q .values _ (getD-in vals i 0 h))
+
+zero-is : (L : ℕ) (vals : List ℕ) (c : ℕ) → has vals c ≡ true → Zero ≡ distance L vals c
+unfolding distance
+zero-is L vals c e = rw e
+
+-- past the refusals
+asked : (c : tie.After-enum-told) → let a = c .before .before .before .before .args in Askable (a .b) (a .vals .now) (a .c)
+asked c = askable-of _ _ _ (sym (c .before .before .admit .ensures) ∙ c .enum-told .given .1)
+
+told : (c : tie.After-enum-told) → let a = c .before .before .before .before .args in
+    distanceTold (a .b) (a .vals .now) (a .c) ≡ distance (limit (a .b)) (a .vals .now) (a .c)
+told c = distance-told _ _ _ (sym (c .before .before .admit .ensures) ∙ c .enum-told .given .1)
+
+admit-requires : tie.Need-admit-requires
+admit-requires c κs = search needs
+
+enum-known-answer : tie.Need-enum-known-answer
+enum-known-answer c = search needs
+
+returns : tie.Need-returns
+returns c =
+    let m = c .before .before .before in
+    sym (distance-refused _ _ _ _ (sym (m .admit .ensures) ∙ c .before .answer .given .1))
+
+enum-told : tie.Need-enum-told
+enum-told c = search needs
+
+listed-requires : tie.Need-listed-requires
+listed-requires c κs = search needs
+
+returns-2 : tie.Need-returns-2
+returns-2 c =
+    let t = c .before .before in
+    let a = t .before .before .before .before .args in
+    zero-is (limit (a .b)) (a .vals .now) (a .c) (sym (c .before .listed .ensures) ∙ c .if1 .taken) ∙ sym (told t)
+
+add-beyond-zero : tie.Need-add-beyond-zero
+add-beyond-zero c = let q = asked (c .before .before) .bits in omega arith
+
+beyond-zero-requires : tie.Need-beyond-zero-requires
+beyond-zero-requires c κs =
+    let t = c .before .before in
+    let a = t .before .before .before .before .args in
+    let q = asked t in
+    let m : 2 ^ a .b ≤ 2 ^ (a .b + 1) = pow-mono {i = a .b} {j = a .b + 1} (omega arith) in (
+      omega (arith, q .bits),
+      ready (a .b) (a .vals .now) (a .c) q,
+      q .target .0,
+      omega (arith, q .target .1),
+      sym (c .before .listed .ensures) ∙ c .if1 .left,
+    )
+
+returns-3 : tie.Need-returns-3
+returns-3 c = c .beyond-zero .ensures ∙ sym (told (c .before .before .before))
+
+pub distance-spec : {M : Type 1} → statement M
+distance-spec =
+    tie.close
+    (tie.spec
+    admit-requires
+    enum-known-answer
+    returns
+    enum-told
+    listed-requires
+    returns-2
+    add-beyond-zero
+    beyond-zero-requires
+    returns-3)
