@@ -1,0 +1,47 @@
+-- What one turn of the generator's rule needs and finds. Assumes nothing.
+use mathlib.Core.Path.{_≡_}
+use mathlib.Core.Bool.{false, cond}
+use mathlib.Core.List.{List, [], _∷_, _++_, List·Memᴰ}
+use mathlib.Core.Option.{some, none}
+use Prim.Native.Nat.{ℕ, _≤_}
+use lib.ListN.{length}
+use Rattle.meaning.specs.Distance.{reach?}
+use Rattle.meaning.specs.Generator.{rowFor, ruleB}
+use Rattle.constants.specs.declared.Wanted.{Wanted}
+use Rattle.constants.specs.Held.{kept}
+use Rattle.reach.specs.Marks.{marked}
+use Rattle.draft.specs.Growth.{Odd, Servable, atMostOne}
+use Rattle.generator.specs.declared.Near.{Near}
+use Rattle.generator.specs.declared.Near.the-variants as near
+use Rattle.generator.specs.declared.Chosen.{Chosen}
+use Rattle.generator.specs.declared.Chosen.the-variants as chosen
+
+-- the array holds as many constants as are counted
+pub record Lists (w : Wanted) (cs : List ℕ) : Type 0 where
+  pub places : length (w .values) ≡ 16
+  pub bound : w .count ≤ 16
+  pub list : kept w ≡ cs
+
+abbrev pub AllServable : ℕ → List ℕ → Type 0
+AllServable L cs = (c : ℕ) → List·Memᴰ c cs → Servable L c
+
+-- the first constant that the map has
+unfoldable pub firstMarked : List ℕ → List ℕ → Near
+firstMarked map [] = near.Nothing
+firstMarked map (c ∷ cs) = cond (marked map c) (near.At c) (firstMarked map cs)
+
+-- s and then c have rows, and these are what step B adds
+pub record Serves (L : ℕ) (vals cs : List ℕ) (c s : ℕ) : Type 0 where
+  pub is-in : List·Memᴰ c cs
+  pub odd : Odd L s
+  pub first : length (atMostOne (rowFor L vals s)) ≡ 1
+  pub second : length (atMostOne (rowFor L (vals ++ (s ∷ [])) c)) ≡ 1
+  pub rows : ruleB L vals cs ≡ some (atMostOne (rowFor L vals s) ++ atMostOne (rowFor L (vals ++ (s ∷ [])) c))
+
+abbrev pub Picked : ℕ → List ℕ → List ℕ → Chosen → Type 0
+Picked L vals cs (chosen.By c s) = Serves L vals cs c s
+Picked L vals cs chosen.Nothing = ruleB L vals cs ≡ none
+
+-- none of the constants is reached by one operation
+abbrev pub NoneNear : ℕ → List ℕ → List ℕ → Type 0
+NoneNear L vals cs = (c : ℕ) → List·Memᴰ c cs → reach? L vals c ≡ false
