@@ -9,7 +9,7 @@ use native.Mathlib.Omega.{arith}
 use borrow.Author.Tests.{leb-false}
 use lib.Dec.{T, leb, le→leb}
 use lib.IntN.{ℤ}
-use lib.ListN.{length, getD}
+use lib.ListN.{length, getD, length-append}
 use Rattle.meaning.specs.declared.Answer.{Answer}
 use Rattle.meaning.specs.declared.Answer.the-variants.{Accepted, Refused}
 use Rattle.meaning.specs.declared.Refusal.the-variants as no
@@ -122,14 +122,15 @@ module _ (b : ℕ) (ts : List ℤ) (e : admitted b ts ≡ Accepted) where
   pub few-rows : length (generated b ts) ≤ mostRows
   few-rows = omega (arith, generated-few b ts e, sum-most b ts (admitted-of b ts e))
 
-  pub generated-accepted : checked b ts (length (generated b ts)) (flat (generated b ts)) ≡ Accepted
-  generated-accepted =
-      of-good b ts (length (generated b ts)) (flat (generated b ts))
+  -- the check accepts it, whatever stands behind its words
+  pub generated-accepted : (rest : List ℕ) → checked b ts (length (generated b ts)) (flat (generated b ts) ++ rest) ≡ Accepted
+  generated-accepted rest =
+      of-good b ts (length (generated b ts)) (flat (generated b ts) ++ rest)
       (record {
         admits = admitted-of b ts e;
-        room = (few-rows, omega (arith, length-flat (generated b ts)));
-        sound = subst⁻¹ (Sound (limit b) (1 ∷ [])) (rows-flat (generated b ts)) generated-sound;
-        serves = λ t i. subst⁻¹ (λ xs. T (served? xs t)) (rows-flat (generated b ts)) (generated-serves t i);
+        room = (few-rows, omega (arith, length-flat (generated b ts), length-append (flat (generated b ts)) rest));
+        sound = subst⁻¹ (Sound (limit b) (1 ∷ [])) (rows-flat (generated b ts) rest) generated-sound;
+        serves = λ t i. subst⁻¹ (λ xs. T (served? xs t)) (rows-flat (generated b ts) rest) (generated-serves t i);
       })
 
   -- stage 8 passes

@@ -1,5 +1,5 @@
 -- The rows of a slice of words: by index, one more at the end, and back from rows; the values of valid rows. Assumes nothing.
-use mathlib.Core.Path.{_≡_, refl, sym, ap, _∙_, subst⁻¹}
+use mathlib.Core.Path.{_≡_, refl, ap, _∙_, subst⁻¹}
 use mathlib.Core.List.{List, [], _∷_, _++_, List·Memᴰ, List·Memᴰ·not-nil, List·Memᴰ·cases-cons}
 use mathlib.Core.Logic.{⊎-elim}
 use Prim.Native.Nat.{ℕ, zero, suc, _+_, _*_, _%_, _^_, _<_}
@@ -62,11 +62,11 @@ value-is (suc n) w zero h = refl
 value-is (suc n) w (suc k) h =
     value-is n (drop rowLength w) k (omega arith) ∙ at-drop w (rowLength * k) 6 ∙ ap (λ j. getD w j 0) (omega arith)
 
--- rows written and read again
-pub rows-flat : (xs : List Row) → rows (length xs) (flat xs) ≡ xs
+-- rows written and read again, whatever stands behind them
+pub rows-flat : (xs : List Row) (rest : List ℕ) → rows (length xs) (flat xs ++ rest) ≡ xs
 unfolding rows flat
-rows-flat [] = refl
-rows-flat (x ∷ xs) = ap (λ l. x ∷ l) (rows-flat xs)
+rows-flat [] rest = refl
+rows-flat (x ∷ xs) rest = ap (λ l. x ∷ l) (rows-flat xs rest)
 
 pub flat-append : (xs ys : List Row) → flat (xs ++ ys) ≡ flat xs ++ flat ys
 unfolding flat
