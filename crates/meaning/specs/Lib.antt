@@ -10,3 +10,6 @@ pub mod Generator
 pub mod Products
 pub mod Widths
 pub mod Refusals
+pub mod Text
+pub mod Job
+pub mod Listing

@@ -183,3 +183,15 @@ impl Drawn {
         }
     }
 }
+
+// A number at a place of a text and the place behind it, or that none stands there.
+pub enum Read {
+    Number(i32, usize),
+    Bad,
+}
+
+// How many bytes were written for a job's text.
+pub enum Printed {
+    Bytes(usize),
+    Refused(Refusal),
+}
