@@ -152,6 +152,13 @@ impl Book {
         self.push(class, 11, &[&[b, target], ready].concat(), answer);
     }
 
+    /// The distance from 1 alone, in a class named after it: so the classes count the constants.
+    pub fn distance_from_1(&mut self, b: u32, target: u32) {
+        let d = distance(b, &[1], target).expect("an odd target below 2^b");
+        let far = ["at 0", "at 1", "at 2", "beyond"][d as usize];
+        self.push(&format!("distance from 1, b {b}, {far}"), 11, &[b, target, 1], format!("0 0 {d}"));
+    }
+
     pub fn generate(&mut self, class: &str, b: u32, room: u32, targets: &[i32]) {
         let (number, place, words) = match generate(b, targets, room as usize) {
             Ok(rows) => (0, 0, flatten(&rows)),

@@ -19,11 +19,20 @@ fn named(book: &mut Book) {
         book.distance("distance b 4, ready 9,17", 4, target, &[9, 17]);
         book.distance("distance b 4, ready 9,17", 4, target, &[17, 9, 9]);
     }
+    for b in [2, 3, 4, 5, 6, 8, 10, 12, 16] {
+        from_1(book, b);
+    }
     for b in 2..=6 {
         for target in (1..1u32 << b).step_by(2) {
-            book.distance("distance from 1", b, target, &[1]);
             book.distance("distance from the top", b, target, &[ceiling(b) - 1]);
         }
+    }
+}
+
+/// Every odd constant from 1 alone.
+pub fn from_1(book: &mut Book, b: u32) {
+    for target in (1..1u32 << b).step_by(2) {
+        book.distance_from_1(b, target);
     }
 }
 
@@ -196,6 +205,7 @@ fn close_calls_of(b: u32, ready: &[u32], target: u32) -> Vec<&'static str> {
     let with_ready = |s: u32| ready.iter().any(|&w| pair(s, w));
     let found = [
         ("distance 2 through one value alone", through.len() == 1),
+        ("distance 2 through 1 alone", through == [1]),
         ("distance 2 through greater values alone", through.iter().all(|&s| s > target)),
         ("distance 2 through values from 2^b alone", through.iter().all(|&s| s >= 1 << b)),
         ("distance 2 through a value with itself alone", !through.iter().any(|&s| with_ready(s))),

@@ -10,7 +10,14 @@ use crate::rng::Rng;
 const ENOUGH: u32 = (MAX_ROWS * ROW) as u32;
 const MOST_ROOM: u32 = 1100;
 
+/// Lists that the papers speak of, at b = 8, and how many rows the rule takes for them.
+pub const PAPER_ROWS: [(&[i32], usize); 6] =
+    [(&[7], 1), (&[23], 2), (&[45], 2), (&[71], 2), (&[105], 2), (&[23, 81], 4)];
+
 fn named(book: &mut Book) {
+    for (list, count) in PAPER_ROWS {
+        book.generate(&format!("generate papers' lists of {count} rows"), 8, ENOUGH, list);
+    }
     let lists: [&[i32]; 9] = [
         &[0],
         &[1, -8],
@@ -47,14 +54,17 @@ fn single(book: &mut Book, rng: &mut Rng) {
             book.generate(&format!("generate each odd constant, b {b}"), b, ENOUGH, &[odd]);
         }
     }
+    for odd in (1..1 << 16).step_by(10) {
+        book.generate("generate every fifth odd constant, b 16", 16, ENOUGH, &[odd]);
+    }
     for _ in 0..150 {
         let odd = rng.below(1 << 16) | 1;
         let target = shifted(rng, odd);
-        book.generate("generate single constants, b 16", 16, ENOUGH, &[target]);
+        book.generate("generate shifted constants, b 16", 16, ENOUGH, &[target]);
     }
     for b in 2..=16 {
         let top = (1 << b) - 1;
-        for target in [top, -top, top - 2, top << (31 - b), 1 << 30, i32::MIN, 0, -1] {
+        for target in top_targets(b).into_iter().chain([top - 2, 1 << 30, i32::MIN, 0, -1]) {
             book.generate("generate extremes", b, ENOUGH, &[target]);
         }
     }
@@ -71,17 +81,25 @@ fn nine_digits(book: &mut Book, rng: &mut Rng) {
     }
 }
 
+/// The targets of greatest odd part, and of them the greatest.
+fn top_targets(b: u32) -> [i32; 4] {
+    let top = (1 << b) - 1;
+    let greatest = top << (31 - b);
+    [top, -top, greatest, -greatest]
+}
+
 /// A list that passes, with repeats, zeros, powers of two and extremes in it.
 fn random_list(rng: &mut Rng, b: u32, size: u32) -> Vec<i32> {
     let mut list: Vec<i32> = Vec::new();
     for _ in 0..size {
         let odd = rng.below(1 << b) | 1;
-        let t = match rng.below(10) {
+        let t = match rng.below(11) {
             0 if !list.is_empty() => one_of(rng, &list),
             1 if !list.is_empty() => one_of(rng, &list).wrapping_neg(),
             2 => one_of(rng, &[0, i32::MIN, 1, -1, 1 << 30]),
             3 => shifted(rng, 1),
-            4 | 5 => passing(rng, b),
+            4 => one_of(rng, &top_targets(b)),
+            5 | 6 => passing(rng, b),
             _ => shifted(rng, odd),
         };
         list.push(t);
@@ -89,14 +107,26 @@ fn random_list(rng: &mut Rng, b: u32, size: u32) -> Vec<i32> {
     list
 }
 
-fn random_lists(book: &mut Book, rng: &mut Rng) {
+/// Two lists for every b and every number of targets.
+pub fn mixed_lists() -> Vec<(u32, Vec<i32>)> {
+    let mut rng = Rng::new(113);
+    let mut all = Vec::new();
     for b in 2..=16 {
         for size in 1..=16 {
-            let room = rng.span(ENOUGH, MOST_ROOM);
-            let list = random_list(rng, b, size);
-            book.generate("generate random lists", b, room, &list);
-            let list = random_list(rng, b, size);
-            book.generate("generate random lists", b, ENOUGH, &list);
+            all.push((b, random_list(&mut rng, b, size)));
+            all.push((b, random_list(&mut rng, b, size)));
+        }
+    }
+    all
+}
+
+fn random_lists(book: &mut Book, rng: &mut Rng) {
+    for (i, (b, list)) in mixed_lists().into_iter().enumerate() {
+        let room = if i % 2 == 0 { ENOUGH } else { rng.span(ENOUGH, MOST_ROOM) };
+        book.generate("generate random lists", b, room, &list);
+    }
+    for b in 2..=16 {
+        for size in 1..=16 {
             let mut list: Vec<i32> = (0..size).map(|_| (rng.below(1 << b) | 1) as i32).collect();
             book.generate("generate random odd lists", b, ENOUGH, &list);
             if size % 4 == 0 {

@@ -1,8 +1,11 @@
 //! Named checks: document 01's sums, figures of the papers, and properties tried out plainly.
 
+use crate::book::Book;
 use crate::constants::{admit, ceiling, limit, take_apart, wanted, Apart};
 use crate::digits::{csd_sum, denoted, form, forms, nonzeros, prefixes, Prefix};
 use crate::distance::{distance, reached, serves, BEYOND};
+use crate::distance_cases::from_1;
+use crate::generate_cases::PAPER_ROWS;
 use crate::generator::generate;
 use crate::graph::{check, flatten, output, Output, Row, MAX_ROWS, ROW};
 use crate::operation::{agrees, operate, shapes, Outcome};
@@ -121,19 +124,20 @@ fn sample_listing(t: &mut Tally) {
     t.same("sample out 3", out(2), Output { index: 0, shift: 0, sign: 0 });
 }
 
-fn counts(b: u32) -> (usize, usize) {
-    let all: Vec<_> = (1..1u32 << b).step_by(2).map(|c| distance(b, &[1], c)).collect();
-    let at = |d| all.iter().filter(|&&got| got == Ok(d)).count();
-    (at(1), at(2))
+/// How many answers of distance 1 and of distance 2 the cases expect for all odd constants from 1.
+fn expected_counts(b: u32) -> (usize, usize) {
+    let mut book = Book::new();
+    from_1(&mut book, b);
+    let at = |answer: &str| book.expected.lines().filter(|&line| line == answer).count();
+    (at("0 0 1"), at("0 0 2"))
 }
 
 fn paper_figures(t: &mut Tally) {
-    for (c, count) in [(7, 1), (23, 2), (45, 2), (71, 2), (105, 2)] {
-        t.same(&format!("rows for {c}"), rows(8, &[c]).len(), count);
+    for (list, count) in PAPER_ROWS {
+        t.same(&format!("rows for {list:?}"), rows(8, list).len(), count);
     }
-    t.same("rows for 23,81", rows(8, &[23, 81]).len(), 4);
     for (b, one, two) in [(8, 13, 64), (10, 17, 132), (12, 21, 224), (16, 29, 480)] {
-        t.same(&format!("constants at 1 and 2, b {b}"), counts(b), (one, two));
+        t.same(&format!("constants at 1 and 2, b {b}"), expected_counts(b), (one, two));
     }
     t.same("b 4, ready 9,17: 3", distance(4, &[9, 17], 3), Ok(2));
     let hit = reached(4, &[9, 17]);

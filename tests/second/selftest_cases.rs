@@ -1,11 +1,13 @@
 //! More named checks: the papers' graphs, and what the classes of cases claim.
 
 use crate::book::{lent, Book, Call};
-use crate::constants::{limit, wanted, Refusal};
+use crate::constants::{limit, take_apart, wanted, Refusal};
 use crate::digits::{nonzeros, prefixes};
 use crate::distance::distance;
 use crate::distance_cases::{faulty_distance, servers, DISTANCE_ORDER};
-use crate::generate_cases::{faulty_generate, ABOVE, GENERATE_ORDER, READY_PREFIX};
+use crate::generate_cases::{
+    faulty_generate, mixed_lists, ABOVE, GENERATE_ORDER, READY_PREFIX,
+};
 use crate::generator::generate;
 use crate::graph::{check, flatten, row_at, value_at, Row, ROW};
 use crate::graph_cases::{
@@ -284,7 +286,8 @@ fn faults(t: &mut Tally) {
 }
 
 fn distances(t: &mut Tally) {
-    t.that("b 8, ready 1,151: 43 through 65", servers(8, &[1, 151], 43).contains(&65));
+    // All of them greater than 43, and the smallest is 65.
+    t.same("b 8, ready 1,151: 43 through", servers(8, &[1, 151], 43), vec![65, 75, 87]);
     t.same("b 8, ready 1,151 and 65: 43", distance(8, &[1, 151, 65], 43), Ok(1));
     t.same("b 4, ready 9,17: 3 through 1 alone", servers(4, &[9, 17], 3), vec![1]);
     t.same("b 8, ready 1,499: 13 by shift b + 1", distance(8, &[1, 499], 13), Ok(1));
@@ -336,10 +339,47 @@ fn generated_lists(t: &mut Tally) {
     t.same("constants of nine digits", nine.len(), 128);
     t.that("constants of nine digits are sound", nine.iter().all(|&c| sound(16, &[c])));
     t.that("a list of 16 of them is sound", sound(16, &nine[40..56]));
-    t.that("3153,3301,7681,8113 sound", sound(13, &[3153, 3301, 7681, 8113]));
+    let list = [3153, 3301, 7681, 8113];
+    t.that("3153,3301,7681,8113 sound", sound(13, &list));
+    t.that("s above the constant in 3153,3301,7681,8113", goes_above(&list, &rows(13, &list)));
 }
 
-pub const MORE: [(&str, fn(&mut Tally)); 9] = [
+/// Whether two targets of the list have the same odd part, and need a row.
+fn repeats(list: &[i32]) -> bool {
+    let odds: Vec<u32> = list.iter().map(|&t| take_apart(t).odd).filter(|&odd| odd > 1).collect();
+    odds.len() > wanted(list).len()
+}
+
+fn mixed(t: &mut Tally) {
+    for b in 2..=16 {
+        let lists: Vec<Vec<i32>> =
+            mixed_lists().into_iter().filter(|l| l.0 == b).map(|l| l.1).collect();
+        let some = |holds: &dyn Fn(i32) -> bool| lists.iter().flatten().any(|&c| holds(c));
+        let power = |c: i32| c.unsigned_abs().is_power_of_two();
+        let top = (1 << b) - 1;
+        let greatest = top << (31 - b);
+        t.that(
+            &format!("random lists of every length, b {b}"),
+            (1..=16).all(|size| lists.iter().any(|list| list.len() == size)),
+        );
+        t.that(
+            &format!("random lists with zeros, powers of two, signs and repeats, b {b}"),
+            some(&|c| c == 0)
+                && some(&|c| c > 2 && power(c))
+                && some(&|c| c < -2 && power(c))
+                && some(&|c| c > 0 && !power(c))
+                && some(&|c| c < 0 && !power(c))
+                && lists.iter().any(|list| repeats(list)),
+        );
+        let extremes = [i32::MIN, top, -top, greatest, -greatest];
+        t.that(
+            &format!("random lists with the extremes, b {b}"),
+            extremes.into_iter().all(|extreme| some(&|c| c == extreme)),
+        );
+    }
+}
+
+pub const MORE: [(&str, fn(&mut Tally)); 10] = [
     ("figures", figures),
     ("figure 14", figure_14),
     ("pool numbers", pool_numbers),
@@ -349,4 +389,5 @@ pub const MORE: [(&str, fn(&mut Tally)); 9] = [
     ("faults", faults),
     ("distances", distances),
     ("generated lists", generated_lists),
+    ("mixed lists", mixed),
 ];

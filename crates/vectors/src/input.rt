@@ -56,11 +56,15 @@ pub fn at(words: &[u32], k: usize) -> u32 {
     words[k]
 }
 
-// Numbers that a lent buffer holds before a call: 7000, 7001, ..
+// What the k-th place of a lent buffer holds before a call: 7000, 7001, ..
+pub fn filling(k: usize) -> u32 {
+    7000 + (k % 100000) as u32
+}
+
 pub fn fill(out: &mut [u32]) {
     let mut k = 0;
     while k < out.len() {
-        out[k] = 7000 + (k % 100000) as u32;
+        out[k] = filling(k);
         k += 1;
     }
 }
@@ -68,7 +72,7 @@ pub fn fill(out: &mut [u32]) {
 pub fn fill_signed(out: &mut [i64]) {
     let mut k = 0;
     while k < out.len() {
-        out[k] = (7000 + (k % 100000)) as i64;
+        out[k] = filling(k) as i64;
         k += 1;
     }
 }

@@ -1,6 +1,7 @@
 // Answers cases for the library's calls, so that another program's answers can be held to them.
 // A case is two little-endian 32-bit words, its kind and the number n of its words, and then the n words.
 // Each answer is a line of decimal numbers.
+mod draws;
 mod graphs;
 mod input;
 mod leaves;
@@ -27,7 +28,7 @@ fn leaf(kind: u32, words: &[u32]) {
     }
 }
 
-// Kinds 1 to 6 are the leaves, 7 to 10 the calls on a graph.
+// Kinds 1 to 6 are the leaves, 7 to 10 the calls on a graph, 11 is distance and 12 the generator.
 fn answer(kind: u32, words: &[u32], targets: &mut [i32], wide: &mut [i64], narrow: &mut [u32]) {
     if kind == 2 {
         leaves::admit(words, targets);
@@ -35,6 +36,14 @@ fn answer(kind: u32, words: &[u32], targets: &mut [i32], wide: &mut [i64], narro
     }
     if kind < 7 {
         leaf(kind, words);
+        return;
+    }
+    if kind == 11 {
+        draws::distance(words);
+        return;
+    }
+    if kind == 12 {
+        draws::generate(words, targets, narrow);
         return;
     }
     graphs::answer(kind, words, targets, wide, narrow);
@@ -93,6 +102,6 @@ fn main() {
     let mut words = [0u32; 1200];
     let mut targets = [0i32; 1200];
     let mut wide = [0i64; 64];
-    let mut narrow = [0u32; 256];
+    let mut narrow = [0u32; 1200];
     run(&mut bytes, &mut words, &mut targets, &mut wide, &mut narrow);
 }

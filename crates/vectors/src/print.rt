@@ -15,6 +15,11 @@ pub fn next(n: u32) {
     io::print_decimal(STDOUT_FILENO, n as u64);
 }
 
+pub fn next_size(n: usize) {
+    io::write_all(STDOUT_FILENO, b" ");
+    io::print_decimal(STDOUT_FILENO, n as u64);
+}
+
 pub fn signed(n: i64) {
     if n < 0 {
         io::write_all(STDOUT_FILENO, b"-");

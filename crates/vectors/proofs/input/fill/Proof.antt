@@ -15,11 +15,8 @@ abbrev μ-loop : tie.MeasureT-loop
 loop-holds : tie.Need-loop-holds Inv-loop μ-loop
 loop-holds c = search needs
 
-cast-out : tie.Need-cast-out Inv-loop μ-loop
-cast-out c = search needs
-
-add-out : tie.Need-add-out Inv-loop μ-loop
-add-out c = search needs
+filling-requires : tie.Need-filling-requires Inv-loop μ-loop
+filling-requires c κs = search needs
 
 mul-out : tie.Need-mul-out Inv-loop μ-loop
 mul-out c = search needs
@@ -49,8 +46,7 @@ fill-spec =
     Inv-loop
     μ-loop
     loop-holds
-    cast-out
-    add-out
+    filling-requires
     mul-out
     slice-write-out
     add-k

@@ -15,14 +15,14 @@ abbrev μ-loop : tie.MeasureT-loop
 loop-holds : tie.Need-loop-holds Inv-loop μ-loop
 loop-holds c = search needs
 
-add-out : tie.Need-add-out Inv-loop μ-loop
-add-out c = search needs
+filling-requires : tie.Need-filling-requires Inv-loop μ-loop
+filling-requires c κs = search needs
 
 cast-out : tie.Need-cast-out Inv-loop μ-loop
 cast-out c = search needs
 
-mul-t7 : tie.Need-mul-t7 Inv-loop μ-loop
-mul-t7 c = search needs
+mul-t3 : tie.Need-mul-t3 Inv-loop μ-loop
+mul-t3 c = search needs
 
 slice-set-from-out : tie.Need-slice-set-from-out Inv-loop μ-loop
 slice-set-from-out c = search needs
@@ -49,9 +49,9 @@ fill-signed-spec =
     Inv-loop
     μ-loop
     loop-holds
-    add-out
+    filling-requires
     cast-out
-    mul-t7
+    mul-t3
     slice-set-from-out
     add-k
     loop-less
