@@ -11,7 +11,7 @@ ghost use lib.IntN.{pos, natAbs, _*ℤ_};
 ghost use lib.ListN.{length, take};
 ghost use lib.Signed.{quotZ};
 ghost use Rattle.meaning.specs.declared.Answer.the-variants.{Accepted};
-ghost use Rattle.meaning.specs.Basics.{every, indexFrom, over};
+ghost use Rattle.meaning.specs.Basics.{every, over};
 ghost use Rattle.meaning.specs.Graph.{rowLength, rowAt, rows, ready, served?};
 ghost use Rattle.meaning.specs.Products.{turned?, joined, turnedBy, rowProduct, products, targetProducts};
 ghost use Rattle.meaning.specs.Refusals.{Done, checked, multiplied, productsWritten};
@@ -117,28 +117,13 @@ fn products_of(n: usize, words: &[u32], x: i32) -> [i64; 129]
     made
 }
 
-// The lowest index that has a value; 0 where none has.
-fn lowest(n: usize, words: &[u32], value: u32) -> usize
-    requires { ⌜ (n ≤ 128) × (rowLength * n ≤ length (now words)) ⌝ }
-    ensures { λ r. ⌜ r ≡ indexFrom 0 (ready (rows n (now (words .entry)))) value ⌝ }
-{
-    let mut index = 0;
-    while index <= n {
-        if rows::value_at(words, n, index) == value {
-            return index;
-        }
-        index += 1;
-    }
-    0
-}
-
 // A target's product, from the products by index: sign × 2^shift × its index's.
 fn target_product(n: usize, words: &[u32], made: &[i64], t: i32) -> i64
     requires { ⌜ Made n (now words) (now made) × T (served? (rows n (now words)) t) ⌝ }
     ensures { λ r. ⌜ r ≡ targetFrom (rows n (now (words .entry))) (now (made .entry)) t ⌝ }
 {
     let parts = constants::take_apart(t);
-    let index = lowest(n, words, parts.odd);
+    let index = rows::lowest(n, words, parts.odd);
     let p = made[index];
     (parts.sign as i64) * shifted(p, parts.shift)
 }

@@ -1,4 +1,4 @@
-// A graph's rows in a lent slice of words: one row read and written, the value of an index, and a row's validity.
+// A graph's rows in a lent slice of words: one row read and written, the value of an index, the lowest index of a value, and a row's validity.
 use meaning::Operated;
 use meaning::ROW_LENGTH;
 use meaning::Row;
@@ -7,10 +7,11 @@ ghost use mathlib.Core.Bool.{_&&_};
 ghost use Prim.Native.Nat.{_+_, _*_, _≤_};
 ghost use lib.Dec.{leb};
 ghost use lib.ListN.{length, getD};
-ghost use Rattle.meaning.specs.Basics.{after};
+ghost use Rattle.meaning.specs.Basics.{after, indexFrom};
 ghost use Rattle.meaning.specs.Limits.{limit};
 ghost use Rattle.meaning.specs.Operation.{valid?};
 ghost use Rattle.meaning.specs.Graph.{rowLength, words, rowAt, rows, ready, rowFits};
+ghost use Rattle.meaning.specs.Refusals.{mostRows};
 
 // The row whose words begin at a place.
 pub fn row_at(words: &[u32], at: usize) -> Row
@@ -37,6 +38,21 @@ pub fn value_at(words: &[u32], i: usize, index: usize) -> u32
         return 1;
     }
     words[ROW_LENGTH * index - 1]
+}
+
+// The lowest index that has a value; 0 where none has.
+pub fn lowest(n: usize, words: &[u32], value: u32) -> usize
+    requires { ⌜ (n ≤ mostRows) × (rowLength * n ≤ length (now words)) ⌝ }
+    ensures { λ r. ⌜ r ≡ indexFrom 0 (ready (rows n (now (words .entry)))) value ⌝ }
+{
+    let mut index = 0;
+    while index <= n {
+        if value_at(words, n, index) == value {
+            return index;
+        }
+        index += 1;
+    }
+    0
 }
 
 // A row's shifts, sign, r and value agree with a valid operation on u and v.

@@ -31,7 +31,7 @@ pub fn row_width(words: &[u32], i: usize, input: u32) -> u32
 }
 
 // The width of a target's output.
-fn output_width(t: i32, input: u32) -> u32
+pub fn output_width(t: i32, input: u32) -> u32
     requires { ⌜ input ≤ 32 ⌝ }
     ensures { λ r. ⌜ r ≡ outputWidth input t ⌝ }
 {

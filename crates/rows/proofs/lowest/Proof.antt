@@ -8,8 +8,8 @@ use Rattle.meaning.specs.Basics.{indexFrom}
 use Rattle.meaning.specs.Graph.{rows, ready}
 use Rattle.meaning.proofs.Graphs.{length-ready}
 use Rattle.meaning.proofs.Products.{index-miss, index-hit, index-end}
-use Rattle.products.proofs.lowest.Statement.{statement}
-use Rattle.products.proofs.lowest.Tie as tie
+use Rattle.rows.proofs.lowest.Statement.{statement}
+use Rattle.rows.proofs.lowest.Tie as tie
 
 abbrev Inv-loop : tie.InvT-loop
 Inv-loop n words value index₀ index = (index ≤ n + 1) × (indexFrom 0 (ready (rows n words)) value ≡ indexFrom index (drop index (ready (rows n words))) value)
