@@ -52,11 +52,11 @@ line fs = pieces (map fieldText fs ++ (bytes "\n" ∷ []))
 abbrev pub reportText : Bool → List ℕ
 reportText byWidth = cond byWidth (bytes "report=width\n") (bytes "report=row\n")
 
--- adders: the rows; csd: condition 3's sum
-unfoldable pub headText : Asked → List Row → List ℕ
-headText j xs =
+-- adders is the row count, csd condition 3's sum
+unfoldable pub headText : Asked → ℕ → List ℕ
+headText j adders =
     pieces (line ("bits=" is j .bits ∷ []) ∷ line ("input=" is j .input ∷ []) ∷ reportText (j .byWidth)
-    ∷ line ("adders=" is pos (length xs) ∷ []) ∷ line ("csd=" is pos (csdSum (wanted (j .targets))) ∷ []) ∷ [])
+    ∷ line ("adders=" is pos adders ∷ []) ∷ line ("csd=" is pos (csdSum (wanted (j .targets))) ∷ []) ∷ [])
 
 -- a row's index, its seven words and its width
 unfoldable pub rowLine : ℕ → Row → ℕ → List ℕ
@@ -98,7 +98,7 @@ unfoldable pub listing : Asked → List ℕ
 listing j =
     let xs : List Row = generated (natural (j .bits)) (j .targets) in
     let input : ℕ = natural (j .input) in
-    pieces (headText j xs ∷ rowTexts input xs (rowOrder (j .byWidth) input xs) ∷ outTexts input xs 1 (j .targets) ∷ [])
+    pieces (headText j (length xs) ∷ rowTexts input xs (rowOrder (j .byWidth) input xs) ∷ outTexts input xs 1 (j .targets) ∷ [])
 
 -- ---- what is printed for a job's text: the listing, or the line of its refusal
 
@@ -115,7 +115,7 @@ jobText s = answerOf (jobOf s)
 
 -- a lent buffer of this many bytes holds every text that can be printed
 abbrev pub textRoom : ℕ
-textRoom = 24896
+textRoom = 24899
 
 -- the call: refusal 4 for a shorter buffer, before all others, and then nothing is written
 unfoldable pub printedTold : List ℕ → ℕ → Printed
