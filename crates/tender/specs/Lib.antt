@@ -1,4 +1,5 @@
 -- What the buyer is promised.
-pub mod Examples
+pub mod Condition1
 pub mod Condition2
 pub mod Condition3
+pub mod Examples
