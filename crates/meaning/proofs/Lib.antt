@@ -29,3 +29,6 @@ pub mod Generated
 pub mod Shortest
 pub mod Distances
 pub mod Steps
+pub mod Numerals
+pub mod Texts
+pub mod ReadBack
