@@ -1,12 +1,14 @@
 -- Condition 1 holds. Assumes nothing.
 use mathlib.Core.Path.{_≡_, refl, sym, ap, _∙_, subst}
 use mathlib.Core.Bool.{Bool, true, false, cond}
-use mathlib.Core.List.{List, [], _∷_, _++_, List·Memᴰ}
+use mathlib.Core.List.{List, [], _∷_, _++_, List·Memᴰ, List·Permᴰ, Permᴰ·refl}
 use mathlib.Core.Logic.{inl, inr, ⊎-elim, _↔_}
 use Prim.Native.Nat.{ℕ, suc, _+_, _*_, _%_, _^_, _≤_, _<_}
 use native.Mathlib.Omega.{arith}
 use lib.Dec.{T, leb, ltb, eqb, leb→le, le→leb, ltb→lt, lt→ltb, eqb→eq}
-use lib.IntN.{ℤ}
+use lib.IntN.{ℤ, pos, negsuc}
+use mir.Syntax.{w32}
+use mir.Val.{SFits}
 use lib.ListN.{length}
 use Rattle.meaning.specs.declared.Answer.{Answer}
 use Rattle.meaning.specs.declared.Answer.the-variants.{Accepted, Refused}
@@ -17,19 +19,21 @@ use Rattle.meaning.specs.declared.Printed.the-variants as printed
 use Rattle.meaning.specs.declared.Refusal.{Refusal}
 use Rattle.meaning.specs.declared.Refusal.the-variants as no
 use Rattle.meaning.specs.declared.Row.{Row}
-use Rattle.meaning.specs.Basics.{all, any, has, over}
+use Rattle.meaning.specs.Basics.{all, any, has, upFrom, over}
 use Rattle.meaning.specs.Limits.{limit}
 use Rattle.meaning.specs.Constants.{oddOf}
 use Rattle.meaning.specs.Distance.{distance, reach?, serves?, candidates}
 use Rattle.meaning.specs.Graph.{rowLength, rows, values, served?}
 use Rattle.meaning.specs.Generator.{generated}
 use Rattle.meaning.specs.Job.{Asked, Job, asks, malformed, jobOf, jobOrder, natural}
-use Rattle.meaning.specs.Listing.{answerOf, orRefused, refusedLine, listing, jobText, printedTold, textWritten, textRoom}
+use Rattle.meaning.specs.Listing.{rowOrder, answerOf, orRefused, refusedLine, listing, jobText, printedTold, textWritten, textRoom}
 use Rattle.meaning.specs.Refusals.{need, needEach, mostRows, number, Done, given, orRows, orFar, firstOf, admitOrder, checkOrder, sizedOrder, productsOrder, widthsOrder, rankingOrder, generateOrder, distanceOrder, oddParts, buffer, rowCount, validRows, allServed, fewRows, inputWidth, readyValues, target, admitted, checked, multiplied, productsWritten, measured, widthsWritten, ranked, rankingWritten, drawn, drawnTold, rowsWritten, distanceTold}
 use Rattle.meaning.proofs.Tests.{All, all-of, of-all, true-of, false-of, T-of, in-every, every-in, both-of, of-both, either-of, of-left, of-right, eq→eqb}
+use Rattle.meaning.proofs.Ranking.{ranking-permutes, ranking-ordered}
+use Rattle.meaning.proofs.ReadBack.{read-back}
 use Rattle.meaning.proofs.Reach.{in-has, has-in}
 use Rattle.meaning.proofs.Stages.{never-both, refused-same, need-refuses, each-refuses, refuses-each, first-bad-row, bad-row-first, one-answer, one-done, over-none}
-use Rattle.tender.specs.Condition1.{Situation, First, oddPartOut, bufferShort, rowCountOut, rowInvalid, oddPartMissing, rowsOver, widthOut, readyValueOut, targetOut, RefusedBy, admitTable, checkTable, sizedTable, generateTable, distanceTable, jobTable, Condition1}
+use Rattle.tender.specs.Condition1.{Situation, First, Signed32, oddPartOut, bufferShort, rowCountOut, rowInvalid, oddPartMissing, rowsOver, widthOut, readyValueOut, targetOut, RefusedBy, admitTable, checkTable, sizedTable, generateTable, distanceTable, jobTable, Condition1}
 
 -- ---- stages and their situations
 
@@ -369,6 +373,16 @@ distances b vals c why =
     both-ways (far-told (firstOf (distanceOrder b vals c)) (distance (limit b) vals c) why (distance-answers (limit b) vals c))
     (exactly (distanceOrder b vals c) (distanceTable b vals c) (distance-stages b vals c) why)
 
+-- ---- what is printed
+
+fits : (z : ℤ) → Signed32 z → SFits w32 z
+fits (pos n) h = record { sfits = h }
+fits (negsuc n) h = record { sfits = h }
+
+once : (byWidth : Bool) (input : ℕ) (xs : List Row) → List·Permᴰ (rowOrder byWidth input xs) (upFrom 1 (length xs))
+once true input xs = ranking-permutes input xs
+once false input xs = Permᴰ·refl (upFrom 1 (length xs))
+
 pub condition1 : Condition1
 condition1 =
     record {
@@ -383,6 +397,10 @@ condition1 =
       job-refused = λ s j why e r. asked-text s j (Refused why) e (exactly (jobOrder j) (jobTable j) (job-told j) why .1 r);
       job-listed = listed-text;
       print = printed-told;
+      numbers-back = λ z front rest h e. read-back z front rest (fits z h) e;
+      rows-once = once;
+      rows-by-width = λ input xs. ranking-ordered input xs;
+      rows-by-number = λ input xs. refl;
       multiply-quiet = multiply-quiet;
       measure-quiet = measure-quiet;
       rank-quiet = rank-quiet;

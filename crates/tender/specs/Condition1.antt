@@ -1,24 +1,29 @@
 -- Condition 1: every list, bit limit, graph, ready list and job text is answered, or refused by a line of the table, exactly in its situation, and
 -- nothing is written on refusal. Assumes nothing.
 use mathlib.Core.Path.{_≡_}
-use mathlib.Core.List.{List, [], _∷_, _++_, List·Memᴰ}
+use mathlib.Core.Bool.{Bool, true, false}
+use mathlib.Core.List.{List, [], _∷_, _++_, map, List·Memᴰ, List·Permᴰ}
 use mathlib.Core.Logic.{_⊎_, _↔_}
-use Prim.Native.Nat.{ℕ, _+_, _*_, _%_, _^_, _≤_, _<_}
-use lib.IntN.{ℤ}
-use lib.ListN.{length}
+use Prim.Native.Nat.{ℕ, _+_, _-_, _*_, _%_, _^_, _≤_, _<_}
+use lib.IntN.{ℤ, pos, negsuc}
+use lib.ListN.{length, getD}
 use Rattle.meaning.specs.declared.Answer.the-variants.{Refused}
 use Rattle.meaning.specs.declared.Drawn.the-variants as drew
 use Rattle.meaning.specs.declared.Far.the-variants as far
 use Rattle.meaning.specs.declared.Printed.the-variants as printed
+use Rattle.meaning.specs.declared.Read.the-variants.{Number}
 use Rattle.meaning.specs.declared.Refusal.{Refusal}
 use Rattle.meaning.specs.declared.Refusal.the-variants as no
 use Rattle.meaning.specs.declared.Row.{Row}
+use Rattle.meaning.specs.Basics.{upFrom}
 use Rattle.meaning.specs.Limits.{limit}
 use Rattle.meaning.specs.Constants.{oddOf}
 use Rattle.meaning.specs.Graph.{rowLength, rows, values}
 use Rattle.meaning.specs.Generator.{generated}
+use Rattle.meaning.specs.Widths.{rowWidth, InOrder}
+use Rattle.meaning.specs.Text.{span, numberAt, textOf}
 use Rattle.meaning.specs.Job.{Asked, asks, malformed, jobOf, natural}
-use Rattle.meaning.specs.Listing.{refusedLine, listing, jobText, printedTold, textWritten, textRoom}
+use Rattle.meaning.specs.Listing.{refusedLine, rowOrder, listing, jobText, printedTold, textWritten, textRoom}
 use Rattle.meaning.specs.Refusals.{mostRows, number, FirstBadRow, Done, admitted, checked, multiplied, productsWritten, measured, widthsWritten, ranked, rankingWritten, drawnTold, rowsWritten, distanceTold}
 
 -- ---- the table: in which situation a refusal comes, and with which place
@@ -108,6 +113,11 @@ abbrev pub jobTable : Asked → List Situation
 jobTable j =
     admitTable (natural (j .bits)) (j .targets) ++ (rowsOver (generated (natural (j .bits)) (j .targets)) ∷ widthOut (natural (j .input)) ∷ [])
 
+-- z is a signed 32-bit number; negsuc n is -(n + 1)
+abbrev pub Signed32 : ℤ → Type 0
+Signed32 (pos n) = n < 2 ^ 31
+Signed32 (negsuc n) = n < 2 ^ 31
+
 pub record Condition1 : Type 1 where
   -- each call refuses exactly in the situations of its table, in their order
   pub admit : (b : ℕ) (ts : List ℤ) (why : Refusal) → (admitted b ts ≡ Refused why) ↔ RefusedBy (admitTable b ts) why
@@ -126,6 +136,13 @@ pub record Condition1 : Type 1 where
   pub job-listed : (s : List ℕ) (j : Asked) → jobOf s ≡ asks j → ((why : Refusal) → ¬ (RefusedBy (jobTable j) why)) → jobText s ≡ listing j
   -- its call asks for a buffer that holds every text
   pub print : (s : List ℕ) (room : ℕ) (why : Refusal) → (printedTold s room ≡ printed.Refused why) ↔ RefusedBy (bufferShort textRoom room ∷ []) why
+  -- the numbers printed read back as the numbers meant, wherever they stand, if no digit follows
+  pub numbers-back : (z : ℤ) (front rest : List ℕ) → Signed32 z → span rest ≡ 0
+      → numberAt (front ++ (textOf z ++ rest)) (length front) ≡ Number z (length front + length (textOf z))
+  -- the row lines are a permutation of the rows: widest first, equal widths by lower row; or by row number
+  pub rows-once : (byWidth : Bool) (input : ℕ) (xs : List Row) → List·Permᴰ (rowOrder byWidth input xs) (upFrom 1 (length xs))
+  pub rows-by-width : (input : ℕ) (xs : List Row) → InOrder (λ k. getD (map (rowWidth input) xs) (k - 1) 0) (rowOrder true input xs)
+  pub rows-by-number : (input : ℕ) (xs : List Row) → rowOrder false input xs ≡ upFrom 1 (length xs)
   -- nothing is written on refusal
   pub multiply-quiet : (b : ℕ) (ts : List ℤ) (n : ℕ) (w : List ℕ) (x : ℤ) (why : Refusal) (before now : List ℤ)
       → Done (multiplied b ts n w (length before)) (productsWritten b ts n w x (length before)) (Refused why) before now → now ≡ before
