@@ -1,5 +1,5 @@
 -- The generator's graph: every row is valid, every wanted constant is made, the check accepts it, and a 129th row is never needed. Assumes nothing.
-use mathlib.Core.Path.{_≡_, refl, sym, ap, _∙_, subst⁻¹}
+use mathlib.Core.Path.{_≡_, refl, sym, ap, ap₂, _∙_, subst⁻¹}
 use mathlib.Core.Bool.{Bool, true, false, cond, _||_}
 use mathlib.Core.List.{List, [], _∷_, _++_, append-nil, append-assoc, List·Memᴰ, List·Memᴰ·head, List·Memᴰ·tail, List·Memᴰ·cases-cons}
 use mathlib.Core.Logic.{⊎-elim}
@@ -7,26 +7,28 @@ use mathlib.Core.Option.{some}
 use Prim.Native.Nat.{ℕ, zero, suc, _*_, _≤_}
 use native.Mathlib.Omega.{arith}
 use borrow.Author.Tests.{leb-false}
-use lib.Dec.{T, leb, le→leb}
+use lib.Dec.{T, leb, le→leb, leb→le}
 use lib.IntN.{ℤ}
-use lib.ListN.{length, getD, length-append}
+use lib.ListN.{length, getD, drop, length-append}
 use Rattle.meaning.specs.declared.Answer.{Answer}
 use Rattle.meaning.specs.declared.Answer.the-variants.{Accepted, Refused}
+use Rattle.meaning.specs.declared.Drawn.the-variants as out
+use Rattle.meaning.specs.declared.Refusal.{Refusal}
 use Rattle.meaning.specs.declared.Refusal.the-variants as no
 use Rattle.meaning.specs.declared.Prefix.{Prefix}
 use Rattle.meaning.specs.declared.Row.{Row}
-use Rattle.meaning.specs.Basics.{has, indexFrom}
+use Rattle.meaning.specs.Basics.{has, indexFrom, over}
 use Rattle.meaning.specs.Limits.{limit}
 use Rattle.meaning.specs.Constants.{oddOf, wanted}
 use Rattle.meaning.specs.Operation.{Valid}
-use Rattle.meaning.specs.Graph.{rowLength, flat, values, ready, Fits, Sound, served?}
+use Rattle.meaning.specs.Graph.{rowLength, rows, flat, values, ready, Fits, Sound, served?}
 use Rattle.meaning.specs.Digits.{prefixes}
 use Rattle.meaning.specs.Generator.{remaining, ruleA, ruleB, ruleC, turn, turns, generated}
-use Rattle.meaning.specs.Refusals.{mostRows, buffer, fewRows, firstOf, admitOrder, admitted, checked, drawn, rowsWritten, given}
+use Rattle.meaning.specs.Refusals.{mostRows, buffer, fewRows, firstOf, admitOrder, generateOrder, admitted, checked, Done, orRows, drawn, drawnTold, rowsWritten, given}
 use Rattle.meaning.proofs.Tests.{T-of}
 use Rattle.meaning.proofs.Graphs.{rows-flat, length-flat}
 use Rattle.meaning.proofs.Chain.{Chain, chain-is, PrefixRow, prefix-row}
-use Rattle.meaning.proofs.Stages.{stops-at, passes-on, of-need}
+use Rattle.meaning.proofs.Stages.{never-both, first-accepts, all-accept, need-accepts, stops-at, passes-on, of-need}
 use Rattle.meaning.proofs.Checked.{admitted-of, of-good}
 use Rattle.meaning.proofs.Products.{index-is}
 use Rattle.meaning.proofs.Reach.{in-has, has-in}
@@ -169,3 +171,60 @@ drawn-accepts b ts room e h =
 pub drawn-writes : (b : ℕ) (ts : List ℤ) (room : ℕ) → admitted b ts ≡ Accepted → rowLength * mostRows ≤ room → rowsWritten b ts room ≡ flat (generated b ts)
 unfolding rowsWritten
 drawn-writes b ts room e h = ap (λ a. given a (flat (generated b ts))) (drawn-accepts b ts room e h)
+
+-- ---- the call
+
+-- a call that is not refused has an admitted list and room for a full graph
+calls : (b : ℕ) (ts : List ℤ) (room : ℕ) → drawn b ts room ≡ Accepted → (admitted b ts ≡ Accepted) × (rowLength * mostRows ≤ room)
+unfolding drawn admitted
+calls b ts room e =
+    let (s1, (s2, (s3, (s4, _)))) = first-accepts (generateOrder b ts room) e in
+    let q = need-accepts no.Buffer (leb (rowLength * mostRows) room ∷ []) s4 in
+    (all-accept (admitOrder b ts) (s1, (s2, (s3, tt))), leb→le _ _ (q .0))
+
+-- what a call has done that reports n rows
+pub record Call (b : ℕ) (ts : List ℤ) (n : ℕ) (before now : List ℕ) : Type 0 where
+  pub admits : admitted b ts ≡ Accepted
+  pub count : n ≡ length (generated b ts)
+  pub writes : now ≡ over (flat (generated b ts)) before
+
+reports : (a : Answer) (m n : ℕ) → out.Rows n ≡ orRows a m → (a ≡ Accepted) × (n ≡ m)
+reports Accepted m n e = (refl, cc)
+reports (Refused why) m n e = absurd (let z : _≡_ {A = ℕ} 0 1 = cc in omega arith)
+
+pub call-of : (b : ℕ) (ts : List ℤ) (n : ℕ) (before now : List ℕ)
+    → Done (drawnTold b ts (length before)) (rowsWritten b ts (length before)) (out.Rows n) before now → Call b ts n before now
+unfolding drawnTold
+call-of b ts n before now d =
+    let (e, q) = reports (drawn b ts (length before)) (length (generated b ts)) n (d .answers) in
+    let (a, h) = calls b ts (length before) e in
+    record { admits = a; count = q; writes = d .writes ∙ ap (λ (ws : List ℕ). over ws before) (drawn-writes b ts (length before) a h) }
+
+-- its rows, as they stand in the slice, are those of the rule
+pub call-rows : (b : ℕ) (ts : List ℤ) (n : ℕ) (before now : List ℕ) → Call b ts n before now → rows n now ≡ generated b ts
+unfolding over
+call-rows b ts n before now k = ap₂ rows (k .count) (k .writes) ∙ rows-flat (generated b ts) (drop (length (flat (generated b ts))) before)
+
+pub call-accepted : (b : ℕ) (ts : List ℤ) (n : ℕ) (before now : List ℕ) → Call b ts n before now → checked b ts n now ≡ Accepted
+unfolding over
+call-accepted b ts n before now k =
+    ap₂ (checked b ts) (k .count) (k .writes) ∙ generated-accepted b ts (k .admits) (drop (length (flat (generated b ts))) before)
+
+-- a call with room for a full graph refuses only what is not admitted
+refuses : (a : Answer) (m : ℕ) (why : Refusal) → out.Refused why ≡ orRows a m → a ≡ Refused why
+refuses Accepted m why e = absurd (let z : _≡_ {A = ℕ} 0 1 = cc in omega arith)
+refuses (Refused y) m why e = cc
+
+pub call-refused : (b : ℕ) (ts : List ℤ) (room : ℕ) (why : Refusal) → rowLength * mostRows ≤ room → out.Refused why ≡ drawnTold b ts room → admitted b ts ≡ Refused why
+unfolding drawnTold
+call-refused b ts room why h e = go (admitted b ts) refl
+  where
+    told : drawn b ts room ≡ Refused why
+    told = refuses (drawn b ts room) (length (generated b ts)) why e
+
+    go : (a : Answer) → admitted b ts ≡ a → admitted b ts ≡ Refused why
+    go Accepted f = never-both why (sym (drawn-accepts b ts room f h) ∙ told)
+    go (Refused y) f =
+        let e : Refused y ≡ firstOf (admitOrder b ts ++ (buffer (rowLength * mostRows) room ∷ [])) =
+        unfold admitted in (stops-at (admitOrder b ts) (buffer (rowLength * mostRows) room ∷ []) (Refused y) y (sym f) refl) in
+        f ∙ e ∙ sym (drawn-is b ts room) ∙ told

@@ -32,3 +32,4 @@ pub mod Steps
 pub mod Numerals
 pub mod Texts
 pub mod ReadBack
+pub mod Jobs
