@@ -10,10 +10,10 @@ use Rattle.text.proofs.put.Statement.{statement}
 use Rattle.text.proofs.put.Tie as tie
 
 abbrev Inv-loop : tie.InvT-loop
-Inv-loop out₀ at text i₀ out i = (i ≤ length text) × (length out ≡ length out₀) × (out ≡ paste out₀ at text i)
+Inv-loop out₀ at text k₀ out k = (k ≤ length text) × (length out ≡ length out₀) × (out ≡ paste out₀ at text k)
 
 abbrev μ-loop : tie.MeasureT-loop
-μ-loop out₀ at text i₀ out i = length text - i
+μ-loop out₀ at text k₀ out k = length text - k
 
 loop-holds : tie.Need-loop-holds Inv-loop μ-loop
 loop-holds c = (omega arith, refl, paste-zero (c .args .out .now) (c .args .at) (c .args .text .now))
@@ -27,8 +27,8 @@ add-out c = omega arith
 slice-write-out : tie.Need-slice-write-out Inv-loop μ-loop
 slice-write-out c = omega arith
 
-add-i : tie.Need-add-i Inv-loop μ-loop
-add-i c = omega arith
+add-k : tie.Need-add-k Inv-loop μ-loop
+add-k c = omega arith
 
 loop-less : tie.Need-loop-less Inv-loop μ-loop
 loop-less c = omega arith
@@ -52,7 +52,7 @@ returns : tie.Need-returns Inv-loop μ-loop
 returns c =
     let l = c .before in
     let a = l .before in
-    paste-whole (a .args .out .now) (a .args .at) (a .args .text .now) _ (l .loop .i) (a .pre) (l .loop .inv .2) (omega arith)
+    paste-whole (a .args .out .now) (a .args .at) (a .args .text .now) _ (l .loop .k) (a .pre) (l .loop .inv .2) (omega arith)
 
 pub put-spec : {M : Type 1} → statement M
 put-spec =
@@ -64,7 +64,7 @@ put-spec =
     shared-slice-read-out
     add-out
     slice-write-out
-    add-i
+    add-k
     loop-less
     loop-again
     add-result
