@@ -162,7 +162,7 @@ fn both(a: &[u8], b: &[u8], k: usize) -> bool
     requires { ⌜ (k < length (now a)) × (k < length (now b)) ⌝ }
     ensures { λ r. ⌜ r ≡ both? (now (a .entry)) (now (b .entry)) k ⌝ }
 {
-    a[k] == 1 && b[k] == 1
+    (a[k] == 1) & (b[k] == 1)
 }
 
 // The first of 3, 5, .. below 2 × end that both maps have marked.
