@@ -7,9 +7,12 @@ use crate::generator::generate;
 use crate::graph::{check, flatten, row_valid, ROW};
 use crate::operation::operate;
 use crate::products::products;
+use crate::text::printed;
 use crate::widths::{bits, ranking, widths, Job};
 
 pub const MOST_WORDS: usize = 1200;
+/// The most words of a case that is a text.
+pub const MOST_TEXT: usize = 1190;
 
 /// What every call on a graph is given; `rows` may be more than the words hold.
 #[derive(Clone)]
@@ -170,5 +173,12 @@ impl Book {
         let mut case = vec![b, room];
         case.extend(targets.iter().map(|&t| t as u32));
         self.push(class, 12, &case, format!("{number} {place} {rows}{written} {untouched}"));
+    }
+
+    /// The words are the text's bytes. The printed lines have their line feeds; one more follows.
+    pub fn text(&mut self, class: &str, text: &[u8]) {
+        assert!(text.len() <= MOST_TEXT, "{class}: {} bytes", text.len());
+        let words: Vec<u32> = text.iter().map(|&byte| byte as u32).collect();
+        self.push(class, 13, &words, printed(text));
     }
 }

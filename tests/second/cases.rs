@@ -5,8 +5,9 @@ use crate::distance_cases::kind_distance;
 use crate::generate_cases::kind_generate;
 use crate::graph_cases::{kind_check, kind_products, kind_ranking, kind_widths};
 use crate::leaves::{kind_admit, kind_apart, kind_bits, kind_digits, kind_operation, kind_row};
+use crate::text_cases::kind_text;
 
-pub const KINDS: [fn(&mut Book); 12] = [
+pub const KINDS: [fn(&mut Book); 13] = [
     kind_apart,
     kind_admit,
     kind_digits,
@@ -19,6 +20,7 @@ pub const KINDS: [fn(&mut Book); 12] = [
     kind_ranking,
     kind_distance,
     kind_generate,
+    kind_text,
 ];
 
 /// Writes both files and prints the classes; whether both could be written.

@@ -82,7 +82,7 @@ fn nine_digits(book: &mut Book, rng: &mut Rng) {
 }
 
 /// The targets of greatest odd part, and of them the greatest.
-fn top_targets(b: u32) -> [i32; 4] {
+pub fn top_targets(b: u32) -> [i32; 4] {
     let top = (1 << b) - 1;
     let greatest = top << (31 - b);
     [top, -top, greatest, -greatest]

@@ -250,7 +250,7 @@ fn layouts(t: &mut Tally) {
 }
 
 /// The number of the earliest fault in the mask.
-fn earliest(order: &[u32], mask: u32) -> u32 {
+pub fn earliest(order: &[u32], mask: u32) -> u32 {
     (0..order.len()).find(|&place| mask >> place & 1 == 1).map_or(0, |place| order[place])
 }
 
