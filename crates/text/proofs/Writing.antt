@@ -88,18 +88,21 @@ paste-whole d at src now i h e k =
 
 -- ---- how long a number is
 
-tens : (f n k : ℕ) (b : Bool) → ltb n 10 ≡ b → n < 10 ^ suc k → (10 ≤ n → length (decimalIn f (n / 10)) ≤ k) → length (decimalIn (suc f) n) ≤ suc k
+tens : (f n k : ℕ) (b : Bool) → ltb n 10 ≡ b → n < 10 ^ suc k
+    → (10 ≤ n → length (decimalIn f (n / 10)) ≤ k) → length (decimalIn (suc f) n) ≤ suc k
 tens f n k true e h i = rw e (omega arith)
 tens f n k false e h i =
     let g = i (ltb-false n 10 e) in
-    let l : length (decimalIn f (n / 10) ++ ((48 + n % 10) ∷ [])) ≡ length (decimalIn f (n / 10)) + 1 = length-append (decimalIn f (n / 10)) ((48 + n % 10) ∷ []) in
+    let ds : List ℕ = decimalIn f (n / 10) in
+    let l : length (ds ++ ((48 + n % 10) ∷ [])) ≡ length ds + 1 = length-append ds ((48 + n % 10) ∷ []) in
     rw e (omega arith)
 
 digits-size : (f k n : ℕ) → n < 10 ^ suc k → length (decimalIn f n) ≤ suc k
 digits-size zero k n h = omega arith
 digits-size (suc f) zero n h = tens f n zero (ltb n 10) refl h (λ g. let y : ⊥ = omega arith in absurd y)
 digits-size (suc f) (suc k) n h =
-    tens f n (suc k) (ltb n 10) refl h (λ g. digits-size f k (n / 10) (let e : 10 ^ suc (suc k) ≡ 10 ^ suc k * 10 = pow-suc 10 (suc k) in omega arith))
+    let e : 10 ^ suc (suc k) ≡ 10 ^ suc k * 10 = pow-suc 10 (suc k) in
+    tens f n (suc k) (ltb n 10) refl h (λ g. digits-size f k (n / 10) (omega arith))
 
 pub number-size : (n : ℕ) → n < 4294967296 → length (unsignedText n) ≤ 10
 unfolding unsignedText

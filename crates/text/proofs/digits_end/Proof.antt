@@ -28,7 +28,8 @@ is-digit-requires c κs = tt
 returns : tie.Need-returns Inv-loop μ-loop
 returns c =
     let m = c .before .before .before in
-    let z = span-stop (m .before .before .before .args .s .now) (m .loop-test .taken) (sym (c .before .is-digit .ensures) ∙ not-true _ (c .if1 .taken)) in
+    let d = sym (c .before .is-digit .ensures) ∙ not-true _ (c .if1 .taken) in
+    let z = span-stop (m .before .before .before .args .s .now) (m .loop-test .taken) d in
     omega arith
 
 add-i : tie.Need-add-i Inv-loop μ-loop
@@ -40,7 +41,8 @@ loop-less c = omega arith
 loop-again : tie.Need-loop-again Inv-loop μ-loop
 loop-again c =
     let m = c .before .before .before in
-    let z = span-more (m .before .before .before .args .s .now) (m .loop-test .taken) (sym (c .before .is-digit .ensures) ∙ not-false _ (c .if1 .left)) in
+    let d = sym (c .before .is-digit .ensures) ∙ not-false _ (c .if1 .left) in
+    let z = span-more (m .before .before .before .args .s .now) (m .loop-test .taken) d in
     omega arith
 
 returns-2 : tie.Need-returns-2 Inv-loop μ-loop

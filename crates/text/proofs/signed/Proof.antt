@@ -54,7 +54,8 @@ returns-2 c =
     let t = m .before .before in
     let a = t .before .before in
     let h = toZ-ofZ w32 _ (a .fits .z) in
-    let k : unsignedText (m .magnitude2 .result) ≡ textOf (a .args .z) = ap unsignedText (m .magnitude2 .ensures ∙ ap natAbs h) ∙ sym (other-text (a .args .z) (rw h at (t .if1 .left))) in
+    let k : unsignedText (m .magnitude2 .result) ≡ textOf (a .args .z) =
+    ap unsignedText (m .magnitude2 .ensures ∙ ap natAbs h) ∙ sym (other-text (a .args .z) (rw h at (t .if1 .left))) in
     same-text k (within (n .natural2 .ensures) (omega arith))
 
 pub signed-spec : {M : Type 1} → statement M
