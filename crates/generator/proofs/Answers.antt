@@ -24,9 +24,6 @@ use Rattle.meaning.proofs.Chain.{prefix-row}
 use Rattle.meaning.proofs.Checked.{Admitted}
 use Rattle.meaning.proofs.Wanted.{all-wanted}
 use Rattle.meaning.proofs.Generated.{drawn-is}
-use Rattle.constants.specs.declared.Wanted.{Wanted}
-use Rattle.constants.specs.Held.{kept, wantedHeld}
-use Rattle.constants.proofs.Insertion.{kept-held}
 use Rattle.generator.specs.Rule.{AllServable}
 
 -- ---- the wanted set
@@ -40,14 +37,6 @@ all-servable b ts a c i =
       odd = (w .odd, omega (arith, w .below));
       steps = λ p j. let r = prefix-row b c p (w .odd) (w .below) j in (r .value-odd, omega (arith, r .value-below));
     }
-
-module _ (w : Wanted) (cs : List ℕ) (e : w ≡ wantedHeld cs) where
-  pub held-list : kept w ≡ cs
-  held-list = ap kept e ∙ kept-held cs
-
-  pub held-count : w .count ≡ length cs
-  unfolding wantedHeld
-  held-count = ap (λ (v : Wanted). v .count) e
 
 -- ---- the answers
 

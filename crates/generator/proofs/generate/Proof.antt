@@ -18,8 +18,9 @@ use Rattle.meaning.proofs.Checked.{Admitted, admitted-of}
 use Rattle.meaning.proofs.Wanted.{wanted-length}
 use Rattle.meaning.proofs.Generated.{few-rows, drawn-accepts}
 use Rattle.constants.specs.Held.{kept}
+use Rattle.constants.proofs.Insertion.{held-list, held-count}
 use Rattle.generator.specs.Rule.{AllServable}
-use Rattle.generator.proofs.Answers.{all-servable, held-list, held-count, drawn-stops, drawn-short, told-refused, told-rows, its-turns}
+use Rattle.generator.proofs.Answers.{all-servable, drawn-stops, drawn-short, told-refused, told-rows, its-turns}
 use Rattle.generator.proofs.generate.Statement.{statement}
 use Rattle.generator.proofs.generate.Tie as tie
 

@@ -1,0 +1,79 @@
+-- `out_fields` meets its contract: five fields, one after the other, and the line feed. Assumes nothing.
+use borrow.Author.Needs.{needs}
+use mir.Syntax.{w32}
+use mir.ValLaws.{toZ-ofZ}
+use Rattle.meaning.specs.Listing.{outLine}
+use Rattle.text.proofs.Writing.{_⨾_, kept}
+use Rattle.listing.proofs.out_fields.Statement.{statement}
+use Rattle.listing.proofs.out_fields.Tie as tie
+
+slice-aggregate-field : tie.Need-slice-aggregate-field
+slice-aggregate-field c = search needs
+
+field-requires : tie.Need-field-requires
+field-requires c κs = search needs
+
+slice-aggregate-field-2 : tie.Need-slice-aggregate-field-2
+slice-aggregate-field-2 c = search needs
+
+field-requires-2 : tie.Need-field-requires-2
+field-requires-2 c κs = search needs
+
+slice-aggregate-field-3 : tie.Need-slice-aggregate-field-3
+slice-aggregate-field-3 c = search needs
+
+field-requires-3 : tie.Need-field-requires-3
+field-requires-3 c κs = search needs
+
+slice-aggregate-signed-field : tie.Need-slice-aggregate-signed-field
+slice-aggregate-signed-field c = search needs
+
+signed-field-requires : tie.Need-signed-field-requires
+signed-field-requires c κs = search needs
+
+slice-aggregate-field-4 : tie.Need-slice-aggregate-field-4
+slice-aggregate-field-4 c = search needs
+
+field-requires-4 : tie.Need-field-requires-4
+field-requires-4 c κs = search needs
+
+slice-aggregate-put : tie.Need-slice-aggregate-put
+slice-aggregate-put c = search needs
+
+put-requires : tie.Need-put-requires
+put-requires c κs = search needs
+
+returns : tie.Need-returns
+unfolding outLine
+returns c =
+    let p = c .before .before in
+    let f5 = p .before .before .before .before .before in
+    let f4 = f5 .before .before .before .before .before in
+    let f3 = f4 .before .before .before .before .before in
+    let f2 = f3 .before .before .before .before .before in
+    let f1 = f2 .before .before .before .before .before in
+    let a = f1 .before .before .before .before in
+    f1 .field .ensures ⨾ f2 .field2 .ensures ⨾ f3 .field3 .ensures ⨾ rw (toZ-ofZ w32 _ (a .fits .sign)) at (f4 .signed-field .ensures) ⨾ f5 .field4 .ensures
+    ⨾ p .put .ensures
+
+same-length : tie.Need-same-length
+same-length c = kept (returns c)
+
+pub out-fields-spec : {M : Type 1} → statement M
+out-fields-spec =
+    tie.close
+    (tie.spec
+    slice-aggregate-field
+    field-requires
+    slice-aggregate-field-2
+    field-requires-2
+    slice-aggregate-field-3
+    field-requires-3
+    slice-aggregate-signed-field
+    signed-field-requires
+    slice-aggregate-field-4
+    field-requires-4
+    slice-aggregate-put
+    put-requires
+    same-length
+    returns)

@@ -1,0 +1,66 @@
+-- `row_back` meets its contract: four fields, one after the other, and the line feed. Assumes nothing.
+use borrow.Author.Needs.{needs}
+use Rattle.text.proofs.Writing.{_⨾_, kept}
+use Rattle.listing.specs.Parts.{rowBack}
+use Rattle.listing.proofs.row_back.Statement.{statement}
+use Rattle.listing.proofs.row_back.Tie as tie
+
+slice-aggregate-field : tie.Need-slice-aggregate-field
+slice-aggregate-field c = search needs
+
+field-requires : tie.Need-field-requires
+field-requires c κs = search needs
+
+slice-aggregate-field-2 : tie.Need-slice-aggregate-field-2
+slice-aggregate-field-2 c = search needs
+
+field-requires-2 : tie.Need-field-requires-2
+field-requires-2 c κs = search needs
+
+slice-aggregate-field-3 : tie.Need-slice-aggregate-field-3
+slice-aggregate-field-3 c = search needs
+
+field-requires-3 : tie.Need-field-requires-3
+field-requires-3 c κs = search needs
+
+slice-aggregate-field-4 : tie.Need-slice-aggregate-field-4
+slice-aggregate-field-4 c = search needs
+
+field-requires-4 : tie.Need-field-requires-4
+field-requires-4 c κs = search needs
+
+slice-aggregate-put : tie.Need-slice-aggregate-put
+slice-aggregate-put c = search needs
+
+put-requires : tie.Need-put-requires
+put-requires c κs = search needs
+
+returns : tie.Need-returns
+unfolding rowBack
+returns c =
+    let p = c .before .before in
+    let f4 = p .before .before .before .before .before in
+    let f3 = f4 .before .before .before .before .before in
+    let f2 = f3 .before .before .before .before .before in
+    let f1 = f2 .before .before .before .before .before in
+    f1 .field .ensures ⨾ f2 .field2 .ensures ⨾ f3 .field3 .ensures ⨾ f4 .field4 .ensures ⨾ p .put .ensures
+
+same-length : tie.Need-same-length
+same-length c = kept (returns c)
+
+pub row-back-spec : {M : Type 1} → statement M
+row-back-spec =
+    tie.close
+    (tie.spec
+    slice-aggregate-field
+    field-requires
+    slice-aggregate-field-2
+    field-requires-2
+    slice-aggregate-field-3
+    field-requires-3
+    slice-aggregate-field-4
+    field-requires-4
+    slice-aggregate-put
+    put-requires
+    same-length
+    returns)
