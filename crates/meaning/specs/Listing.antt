@@ -106,9 +106,12 @@ abbrev pub orRefused : Answer → List ℕ → List ℕ
 orRefused Accepted text = text
 orRefused (Refused why) text = refusedLine why
 
+unfoldable pub replyTo : Asked → List ℕ
+replyTo j = orRefused (firstOf (jobOrder j)) (listing j)
+
 abbrev pub answerOf : Job → List ℕ
 answerOf (malformed place) = refusedLine (no.Job place)
-answerOf (asks j) = orRefused (firstOf (jobOrder j)) (listing j)
+answerOf (asks j) = replyTo j
 
 unfoldable pub jobText : List ℕ → List ℕ
 jobText s = answerOf (jobOf s)

@@ -26,7 +26,7 @@ use Rattle.meaning.specs.Distance.{distance, reach?, serves?, candidates}
 use Rattle.meaning.specs.Graph.{rowLength, rows, values, served?}
 use Rattle.meaning.specs.Generator.{generated}
 use Rattle.meaning.specs.Job.{Asked, Job, asks, malformed, jobOf, jobOrder, natural}
-use Rattle.meaning.specs.Listing.{rowOrder, answerOf, orRefused, refusedLine, listing, jobText, printedTold, textWritten, textRoom}
+use Rattle.meaning.specs.Listing.{rowOrder, answerOf, orRefused, replyTo, refusedLine, listing, jobText, printedTold, textWritten, textRoom}
 use Rattle.meaning.specs.Refusals.{need, needEach, mostRows, number, Done, given, orRows, orFar, firstOf, admitOrder, checkOrder, sizedOrder, productsOrder, widthsOrder, rankingOrder, generateOrder, distanceOrder, oddParts, buffer, rowCount, validRows, allServed, fewRows, inputWidth, readyValues, target, admitted, checked, multiplied, productsWritten, measured, widthsWritten, ranked, rankingWritten, drawn, drawnTold, rowsWritten, distanceTold}
 use Rattle.meaning.proofs.Tests.{All, all-of, of-all, true-of, false-of, T-of, in-every, every-in, both-of, of-both, either-of, of-left, of-right, eq→eqb}
 use Rattle.meaning.proofs.Ranking.{ranking-permutes, ranking-ordered}
@@ -259,7 +259,7 @@ module _ (s : List ℕ) where
   malformed-text p e = ap answerOf e
 
   asked-text : (j : Asked) (a : Answer) → jobOf s ≡ asks j → firstOf (jobOrder j) ≡ a → jobText s ≡ orRefused a (listing j)
-  unfolding jobText
+  unfolding jobText replyTo
   asked-text j a e f = ap answerOf e ∙ ap (λ (x : Answer). orRefused x (listing j)) f
 
   listed-text : (j : Asked) → jobOf s ≡ asks j → ((why : Refusal) → ¬ (RefusedBy (jobTable j) why)) → jobText s ≡ listing j

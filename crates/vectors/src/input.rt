@@ -48,6 +48,18 @@ pub fn signed_words(words: &[u32], out: &mut [i32]) {
     }
 }
 
+// The words' lowest bytes, as many as there are places for.
+pub fn narrow(words: &[u32], out: &mut [u8]) {
+    let mut k = 0;
+    while k < out.len() {
+        if words.len() <= k {
+            return;
+        }
+        out[k] = (words[k] % 256) as u8;
+        k += 1;
+    }
+}
+
 // The k-th of some words; 0 where there is none.
 pub fn at(words: &[u32], k: usize) -> u32 {
     if words.len() <= k {

@@ -4,6 +4,7 @@
 mod draws;
 mod graphs;
 mod input;
+mod jobs;
 mod leaves;
 mod print;
 
@@ -28,7 +29,7 @@ fn leaf(kind: u32, words: &[u32]) {
     }
 }
 
-// Kinds 1 to 6 are the leaves, 7 to 10 the calls on a graph, 11 is distance and 12 the generator.
+// Kinds 1 to 6 are the leaves, 7 to 10 the calls on a graph, 11 is distance, 12 the generator and 13 a job.
 fn answer(kind: u32, words: &[u32], targets: &mut [i32], wide: &mut [i64], narrow: &mut [u32]) {
     if kind == 2 {
         leaves::admit(words, targets);
@@ -44,6 +45,10 @@ fn answer(kind: u32, words: &[u32], targets: &mut [i32], wide: &mut [i64], narro
     }
     if kind == 12 {
         draws::generate(words, targets, narrow);
+        return;
+    }
+    if kind == 13 {
+        jobs::answer(words);
         return;
     }
     graphs::answer(kind, words, targets, wide, narrow);

@@ -5,9 +5,8 @@ use native.Mathlib.Omega.{arith}
 use borrow.Author.Needs.{needs}
 use lib.ListN.{length, length-set}
 use Rattle.meaning.specs.Basics.{upFrom, over}
-use Rattle.meaning.proofs.Over.{length-over}
 use Rattle.meaning.proofs.Stages.{over-none}
-use Rattle.reply.proofs.Laws.{counted, up-length}
+use Rattle.reply.proofs.Laws.{counted}
 use Rattle.reply.proofs.count_up.Statement.{statement}
 use Rattle.reply.proofs.count_up.Tie as tie
 

@@ -1,0 +1,22 @@
+// Reads a job from standard input and prints its listing, or the line of its refusal.
+use libc::STDIN_FILENO;
+use libc::STDOUT_FILENO;
+use meaning::Printed;
+
+fn print(text: &[u8], out: &mut [u8]) {
+    let printed = reply::answer(text, out);
+    let Printed::Bytes(n) = printed else {
+        return;
+    };
+    if n <= out.len() {
+        io::write_all(STDOUT_FILENO, &out[..n]);
+    }
+}
+
+// One byte more than a job may have shows that a text is too long, whatever its length.
+fn main() {
+    let mut text = [0u8; 257];
+    let n = io::read_full(STDIN_FILENO, &mut text);
+    let mut out = [0u8; 24899];
+    print(&text[..n], &mut out);
+}
