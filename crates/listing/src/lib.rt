@@ -196,8 +196,10 @@ pub fn refused(out: &mut [u8], why: Refusal) -> usize
     requires { ⌜ 41 ≤ length (now out) ⌝ }
     ensures { λ r. ⌜ Wrote 41 (now (out .entry)) 0 (refusedLine why) (now (out .exit)) r ⌝ }
 {
-    let at = field(out, 0, b"refused=", why.number());
-    number_line(out, at, b" place=", why.place())
+    let number = why.number();
+    let place = why.place();
+    let at = field(out, 0, b"refused=", number);
+    number_line(out, at, b" place=", place)
 }
 
 // The whole listing, from the front: the head, the rows in the given order, the outputs. `width` is the input width.
