@@ -1,4 +1,4 @@
--- What the lines are, as the code makes them: a row's line in two halves, the lines so far and one more, and the sum so far. Assumes nothing.
+-- What the lines are, as the code makes them: a line's end, a row's line in two halves, the lines so far and one more, and the sum so far. Assumes nothing.
 use mathlib.Core.Path.{_≡_, sym, ap, _∙_}
 use mathlib.Core.List.{List, [], _∷_, _++_, map, append-assoc, append-nil}
 use Prim.Native.Nat.{ℕ, zero, suc, _+_, _-_, _*_, _≤_, _<_}
@@ -19,7 +19,15 @@ use Rattle.meaning.specs.Widths.{rowWidth}
 use Rattle.meaning.proofs.Choices.{getD-in}
 use Rattle.meaning.proofs.Graphs.{row-of}
 use Rattle.meaning.proofs.Wanted.{wanted-in}
+use Rattle.text.specs.Wrote.{Wrote}
+use Rattle.text.proofs.Writing.{_⨾_, same-text}
 use Rattle.listing.specs.Parts.{frontFields, backFields, rowFront, rowBack}
+
+-- ---- a line's end
+
+-- its last number and the line feed, written together
+pub ended : {m n a b c : ℕ} {d e f t : List ℕ} (u v : List ℕ) → Wrote m d a t e b → Wrote n e b (u ++ v) f c → Wrote (m + n) d a (t ++ u ++ v) f c
+ended {t = t} u v p q = same-text (sym (append-assoc t u v)) (p ⨾ q)
 
 -- ---- a row's line
 

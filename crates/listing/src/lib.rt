@@ -27,13 +27,13 @@ fn signed_line(out: &mut [u8], at: usize, name: &[u8], z: i32) -> usize
     put(out, at, b"\n")
 }
 
-// A line of one number.
+// A number and the line feed: a line, or the end of one.
 fn number_line(out: &mut [u8], at: usize, name: &[u8], n: u32) -> usize
     requires { ⌜ (length (now name) ≤ 10) × (at + 21 ≤ length (now out)) ⌝ }
     ensures { λ r. ⌜ Wrote 21 (now (out .entry)) at ((now (name .entry) ++ unsignedText n) ++ bytes "\n") (now (out .exit)) r ⌝ }
 {
-    let at = field(out, at, name, n);
-    put(out, at, b"\n")
+    let end = field(out, at, name, n);
+    put(out, end, b"\n")
 }
 
 fn report(out: &mut [u8], at: usize, by_width: bool) -> usize
@@ -102,7 +102,7 @@ fn row_front(out: &mut [u8], at: usize, i: u32, x: Row) -> usize
     field(out, at, b" l2=", x.l2)
 }
 
-// The others, and the line feed.
+// The others.
 fn row_back(out: &mut [u8], at: usize, x: Row, width: u32) -> usize
     requires { ⌜ at + 81 ≤ length (now out) ⌝ }
     ensures { λ r. ⌜ Wrote 81 (now (out .entry)) at (rowBack x width) (now (out .exit)) r ⌝ }
@@ -110,8 +110,7 @@ fn row_back(out: &mut [u8], at: usize, x: Row, width: u32) -> usize
     let at = field(out, at, b" s=", x.s);
     let at = field(out, at, b" r=", x.r);
     let at = field(out, at, b" value=", x.value);
-    let at = field(out, at, b" width=", width);
-    put(out, at, b"\n")
+    number_line(out, at, b" width=", width)
 }
 
 // The line of row i, from 1.
@@ -174,8 +173,7 @@ fn out_fields(
     let at = field(out, at, b" row=", index);
     let at = field(out, at, b" shift=", shift);
     let at = signed_field(out, at, b" sign=", sign);
-    let at = field(out, at, b" width=", width);
-    put(out, at, b"\n")
+    number_line(out, at, b" width=", width)
 }
 
 // The out lines, in the order of the targets.
@@ -198,9 +196,10 @@ pub fn refused(out: &mut [u8], why: Refusal) -> usize
     requires { ⌜ 41 ≤ length (now out) ⌝ }
     ensures { λ r. ⌜ Wrote 41 (now (out .entry)) 0 (refusedLine why) (now (out .exit)) r ⌝ }
 {
-    let at = field(out, 0, b"refused=", why.number());
-    let at = field(out, at, b" place=", why.place());
-    put(out, at, b"\n")
+    let number = why.number();
+    let place = why.place();
+    let at = field(out, 0, b"refused=", number);
+    number_line(out, at, b" place=", place)
 }
 
 // The whole listing, from the front: the head, the rows in the given order, the outputs. `width` is the input width.

@@ -1,9 +1,12 @@
 -- `out_fields` meets its contract: five fields, one after the other, and the line feed. Assumes nothing.
 use borrow.Author.Needs.{needs}
+use lib.IntN.{pos}
 use mir.Syntax.{w32}
 use mir.ValLaws.{toZ-ofZ}
-use Rattle.meaning.specs.Listing.{outLine}
+use Rattle.meaning.specs.Listing.{_is_, fieldText, outLine}
+use Rattle.meaning.specs.Text.{bytes}
 use Rattle.text.proofs.Writing.{_⨾_, kept}
+use Rattle.listing.proofs.Laws.{ended}
 use Rattle.listing.proofs.out_fields.Statement.{statement}
 use Rattle.listing.proofs.out_fields.Tie as tie
 
@@ -31,30 +34,24 @@ slice-aggregate-signed-field c = search needs
 signed-field-requires : tie.Need-signed-field-requires
 signed-field-requires c κs = search needs
 
-slice-aggregate-field-4 : tie.Need-slice-aggregate-field-4
-slice-aggregate-field-4 c = search needs
+slice-aggregate-number-line : tie.Need-slice-aggregate-number-line
+slice-aggregate-number-line c = search needs
 
-field-requires-4 : tie.Need-field-requires-4
-field-requires-4 c κs = search needs
-
-slice-aggregate-put : tie.Need-slice-aggregate-put
-slice-aggregate-put c = search needs
-
-put-requires : tie.Need-put-requires
-put-requires c κs = search needs
+number-line-requires : tie.Need-number-line-requires
+number-line-requires c κs = search needs
 
 returns : tie.Need-returns
 unfolding outLine
 returns c =
-    let p = c .before .before in
-    let f5 = p .before .before .before .before .before in
-    let f4 = f5 .before .before .before .before .before in
+    let l = c .before .before in
+    let f4 = l .before .before .before .before .before in
     let f3 = f4 .before .before .before .before .before in
     let f2 = f3 .before .before .before .before .before in
     let f1 = f2 .before .before .before .before .before in
     let a = f1 .before .before .before .before in
-    f1 .field .ensures ⨾ f2 .field2 .ensures ⨾ f3 .field3 .ensures ⨾ rw (toZ-ofZ w32 _ (a .fits .sign)) at (f4 .signed-field .ensures) ⨾ f5 .field4 .ensures
-    ⨾ p .put .ensures
+    ended (fieldText (" width=" is pos (a .args .width))) (bytes "\n")
+    (f1 .field .ensures ⨾ f2 .field2 .ensures ⨾ f3 .field3 .ensures ⨾ rw (toZ-ofZ w32 _ (a .fits .sign)) at (f4 .signed-field .ensures))
+    (l .number-line .ensures)
 
 same-length : tie.Need-same-length
 same-length c = kept (returns c)
@@ -71,9 +68,7 @@ out-fields-spec =
     field-requires-3
     slice-aggregate-signed-field
     signed-field-requires
-    slice-aggregate-field-4
-    field-requires-4
-    slice-aggregate-put
-    put-requires
+    slice-aggregate-number-line
+    number-line-requires
     same-length
     returns)

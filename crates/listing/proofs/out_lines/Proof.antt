@@ -10,7 +10,7 @@ use mir.ValLaws.{toZ-ofZ}
 use Rattle.meaning.specs.Graph.{rows}
 use Rattle.meaning.specs.Listing.{outTexts}
 use Rattle.text.specs.Wrote.{Wrote}
-use Rattle.text.proofs.Writing.{same-text, within, kept, still, nothing, more}
+use Rattle.text.proofs.Writing.{same-text, within, still, nothing, more}
 use Rattle.listing.proofs.Laws.{outs-more}
 use Rattle.listing.proofs.out_lines.Statement.{statement}
 use Rattle.listing.proofs.out_lines.Tie as tie

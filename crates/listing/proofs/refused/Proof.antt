@@ -1,41 +1,39 @@
 -- `refused` meets its contract: number and place, one after the other, and the line feed. Assumes nothing.
 use borrow.Author.Needs.{needs}
-use Rattle.meaning.specs.Listing.{refusedLine}
-use Rattle.text.proofs.Writing.{_⨾_, kept}
+use lib.IntN.{pos}
+use Rattle.meaning.specs.Listing.{_is_, fieldText, refusedLine}
+use Rattle.meaning.specs.Text.{bytes}
+use Rattle.text.proofs.Writing.{kept}
+use Rattle.listing.proofs.Laws.{ended}
 use Rattle.listing.proofs.refused.Statement.{statement}
 use Rattle.listing.proofs.refused.Tie as tie
-
-slice-aggregate-field : tie.Need-slice-aggregate-field
-slice-aggregate-field c = search needs
 
 number-requires : tie.Need-number-requires
 number-requires c κs = search needs
 
-field-requires : tie.Need-field-requires
-field-requires c κs = search needs
-
-slice-aggregate-field-2 : tie.Need-slice-aggregate-field-2
-slice-aggregate-field-2 c = search needs
-
 place-requires : tie.Need-place-requires
 place-requires c κs = search needs
 
-field-requires-2 : tie.Need-field-requires-2
-field-requires-2 c κs = search needs
+slice-aggregate-field : tie.Need-slice-aggregate-field
+slice-aggregate-field c = search needs
 
-slice-aggregate-put : tie.Need-slice-aggregate-put
-slice-aggregate-put c = search needs
+field-requires : tie.Need-field-requires
+field-requires c κs = search needs
 
-put-requires : tie.Need-put-requires
-put-requires c κs = search needs
+slice-aggregate-number-line : tie.Need-slice-aggregate-number-line
+slice-aggregate-number-line c = search needs
+
+number-line-requires : tie.Need-number-line-requires
+number-line-requires c κs = search needs
 
 returns : tie.Need-returns
 unfolding refusedLine
 returns c =
-    let p = c .before .before in
-    let s = p .before .before .before .before .before in
-    let f = s .before .before .before .before .before .before in
-    rw (f .before .number .ensures) at (f .field .ensures) ⨾ rw (s .before .place .ensures) at (s .field2 .ensures) ⨾ p .put .ensures
+    let l = c .before .before in
+    let f = l .before .before .before .before .before in
+    let p = f .before .before .before in
+    rw (← p .before .number .ensures, ← p .place .ensures)
+    (ended (fieldText (" place=" is pos (p .place .result))) (bytes "\n") (f .field .ensures) (l .number-line .ensures))
 
 same-length : tie.Need-same-length
 same-length c = kept (returns c)
@@ -44,13 +42,11 @@ pub refused-spec : {M : Type 1} → statement M
 refused-spec =
     tie.close
     (tie.spec
-    slice-aggregate-field
     number-requires
-    field-requires
-    slice-aggregate-field-2
     place-requires
-    field-requires-2
-    slice-aggregate-put
-    put-requires
+    slice-aggregate-field
+    field-requires
+    slice-aggregate-number-line
+    number-line-requires
     same-length
     returns)

@@ -1,7 +1,11 @@
 -- `row_back` meets its contract: four fields, one after the other, and the line feed. Assumes nothing.
 use borrow.Author.Needs.{needs}
+use lib.IntN.{pos}
+use Rattle.meaning.specs.Listing.{_is_, fieldText}
+use Rattle.meaning.specs.Text.{bytes}
 use Rattle.text.proofs.Writing.{_⨾_, kept}
 use Rattle.listing.specs.Parts.{rowBack}
+use Rattle.listing.proofs.Laws.{ended}
 use Rattle.listing.proofs.row_back.Statement.{statement}
 use Rattle.listing.proofs.row_back.Tie as tie
 
@@ -23,27 +27,21 @@ slice-aggregate-field-3 c = search needs
 field-requires-3 : tie.Need-field-requires-3
 field-requires-3 c κs = search needs
 
-slice-aggregate-field-4 : tie.Need-slice-aggregate-field-4
-slice-aggregate-field-4 c = search needs
+slice-aggregate-number-line : tie.Need-slice-aggregate-number-line
+slice-aggregate-number-line c = search needs
 
-field-requires-4 : tie.Need-field-requires-4
-field-requires-4 c κs = search needs
-
-slice-aggregate-put : tie.Need-slice-aggregate-put
-slice-aggregate-put c = search needs
-
-put-requires : tie.Need-put-requires
-put-requires c κs = search needs
+number-line-requires : tie.Need-number-line-requires
+number-line-requires c κs = search needs
 
 returns : tie.Need-returns
 unfolding rowBack
 returns c =
-    let p = c .before .before in
-    let f4 = p .before .before .before .before .before in
-    let f3 = f4 .before .before .before .before .before in
+    let l = c .before .before in
+    let f3 = l .before .before .before .before .before in
     let f2 = f3 .before .before .before .before .before in
     let f1 = f2 .before .before .before .before .before in
-    f1 .field .ensures ⨾ f2 .field2 .ensures ⨾ f3 .field3 .ensures ⨾ f4 .field4 .ensures ⨾ p .put .ensures
+    let a = f1 .before .before .before .before .args in
+    ended (fieldText (" width=" is pos (a .width))) (bytes "\n") (f1 .field .ensures ⨾ f2 .field2 .ensures ⨾ f3 .field3 .ensures) (l .number-line .ensures)
 
 same-length : tie.Need-same-length
 same-length c = kept (returns c)
@@ -58,9 +56,7 @@ row-back-spec =
     field-requires-2
     slice-aggregate-field-3
     field-requires-3
-    slice-aggregate-field-4
-    field-requires-4
-    slice-aggregate-put
-    put-requires
+    slice-aggregate-number-line
+    number-line-requires
     same-length
     returns)

@@ -8,7 +8,7 @@ use lib.Seq.{take-all}
 use Rattle.meaning.specs.Graph.{rows}
 use Rattle.meaning.specs.Listing.{rowTexts}
 use Rattle.text.specs.Wrote.{Wrote}
-use Rattle.text.proofs.Writing.{same-text, within, kept, still, nothing, more}
+use Rattle.text.proofs.Writing.{same-text, within, still, nothing, more}
 use Rattle.listing.proofs.Laws.{rows-more}
 use Rattle.listing.proofs.row_lines.Statement.{statement}
 use Rattle.listing.proofs.row_lines.Tie as tie
@@ -35,7 +35,7 @@ row-line-requires c κs =
     let t = c .before .before in
     let l = t .before in
     let p = l .before .before .before .before .pre in
-    (still 181 (l .loop .inv .2) (omega (arith, p .0, p .2 .few)), p .1, p .2 .low _ (t .loop-test .taken), p .2 .high _ (t .loop-test .taken), p .3)
+    (still 181 (l .loop .inv .2) (omega (arith, p .0, p .2 .few)), p .1, p .2 .low _ (omega arith), p .2 .high _ (omega arith), p .3)
 
 add-k : tie.Need-add-k Inv-loop μ-loop
 add-k c = search needs
