@@ -1,0 +1,234 @@
+/* The library's search in plain C, to hold its speed to: a byte for each odd number that one operation reaches, kept
+   from row to row; a second map of the values that would serve a constant; and one scan for the first in both. */
+#include "cases.h"
+
+enum { PLACES = 65536 };
+
+typedef struct {
+    uint32_t top; /* values are below 2^top, and shifts at most top */
+    int count;
+    uint32_t value[MOST_READY];
+    uint8_t reach[PLACES];
+} Set;
+
+/* n without its trailing zeros is marked, if that is below 2^top. */
+static inline void mark(uint8_t *map, uint32_t top, uint64_t n)
+{
+    if (n == 0)
+        return;
+    n >>= __builtin_ctzll(n);
+    if (n >> top == 0)
+        map[n / 2] = 1;
+}
+
+/* All results of operations on u as it is and v shifted. */
+static inline void mark_side(uint8_t *map, uint32_t top, uint64_t u, uint64_t v)
+{
+    for (uint32_t l = 0; l <= top; l++) {
+        uint64_t a = v << l;
+        mark(map, top, u + a);
+        mark(map, top, u < a ? a - u : u - a);
+    }
+}
+
+static void mark_with_each(uint8_t *map, const Set *set, uint32_t v)
+{
+    for (int i = 0; i < set->count; i++) {
+        mark_side(map, set->top, v, set->value[i]);
+        mark_side(map, set->top, set->value[i], v);
+    }
+}
+
+/* The values from which, taken twice, one operation gives c. */
+static void mark_twice(uint8_t *map, uint32_t top, uint32_t c)
+{
+    for (uint32_t l = 1; l <= top; l++) {
+        uint32_t less = (1u << l) - 1, more = (1u << l) + 1;
+        if (c % less == 0)
+            map[c / less / 2] = 1;
+        if (c % more == 0)
+            map[c / more / 2] = 1;
+    }
+}
+
+static void include(Set *set, uint32_t v)
+{
+    mark_with_each(set->reach, set, v);
+    mark_side(set->reach, set->top, v, v);
+    set->value[set->count++] = v;
+}
+
+static void start(Set *set, uint32_t top)
+{
+    set->top = top;
+    set->count = 0;
+    memset(set->reach, 0, (size_t)1 << (top - 1));
+}
+
+static int reached(const Set *set, uint32_t c)
+{
+    return set->reach[c / 2];
+}
+
+/* The first odd number, from a place of the maps on, that both have marked, or 0. Eight bytes are looked at together. */
+static uint32_t first_in_both(const uint8_t *a, const uint8_t *b, uint32_t from, uint32_t end)
+{
+    uint32_t k = from;
+    for (; k + 8 <= end; k += 8) {
+        uint64_t x, y;
+        memcpy(&x, a + k, 8);
+        memcpy(&y, b + k, 8);
+        if (x & y)
+            break;
+    }
+    for (; k < end; k++)
+        if (a[k] & b[k])
+            return 2 * k + 1;
+    return 0;
+}
+
+/* The smallest value, from a place of the maps on, that one operation reaches and that serves c, or 0. The operation is
+   symmetric, so a value that makes c with a ready one is a value that c makes with it. */
+static uint32_t server(const Set *set, uint32_t c, uint32_t from)
+{
+    uint8_t serve[PLACES];
+    uint32_t end = 1u << (set->top - 1);
+    memset(serve, 0, end);
+    mark_with_each(serve, set, c);
+    mark_twice(serve, set->top, c);
+    return first_in_both(set->reach, serve, from, end);
+}
+
+static int in(const uint32_t *values, int count, uint32_t v)
+{
+    for (int i = 0; i < count; i++)
+        if (values[i] == v)
+            return 1;
+    return 0;
+}
+
+static int distance(uint32_t b, const uint32_t *ready, int count, uint32_t target)
+{
+    Set set;
+    if (in(ready, count, target))
+        return 0;
+    start(&set, b + 1);
+    for (int i = 0; i < count; i++)
+        include(&set, ready[i]);
+    if (reached(&set, target))
+        return 1;
+    return server(&set, target, 0) ? 2 : 3;
+}
+
+typedef struct {
+    uint32_t word[ROW];
+} Row;
+
+/* Whether one choice makes c, and its row. */
+static inline int makes(const Set *set, int i, int j, uint32_t l1, uint32_t l2, uint32_t s, uint32_t c, Row *row)
+{
+    uint64_t u = (uint64_t)set->value[i] << l1, v = (uint64_t)set->value[j] << l2;
+    uint64_t n = s == 0 ? u + v : u < v ? v - u : u - v;
+    if (n == 0)
+        return 0;
+    uint32_t r = (uint32_t)__builtin_ctzll(n);
+    if (n >> r != c)
+        return 0;
+    *row = (Row){{(uint32_t)i, (uint32_t)j, l1, l2, s, r, c}};
+    return 1;
+}
+
+/* The shifts in their order: l1 first, so that all of l2 come with l1 = 0. */
+static int pair_makes(const Set *set, int i, int j, uint32_t c, Row *row)
+{
+    for (uint32_t l = 0; l <= set->top; l++)
+        if (makes(set, i, j, 0, l, 0, c, row) || makes(set, i, j, 0, l, 1, c, row))
+            return 1;
+    for (uint32_t l = 1; l <= set->top; l++)
+        if (makes(set, i, j, l, 0, 0, c, row) || makes(set, i, j, l, 0, 1, c, row))
+            return 1;
+    return 0;
+}
+
+static int first_row(const Set *set, uint32_t c, Row *row)
+{
+    for (int i = 0; i < set->count; i++)
+        for (int j = i; j < set->count; j++)
+            if (pair_makes(set, i, j, c, row))
+                return 1;
+    return 0;
+}
+
+static void add_row(Set *set, uint32_t *out, const Row *row)
+{
+    memcpy(out + ROW * (set->count - 1), row, sizeof *row);
+    include(set, row->word[ROW - 1]);
+}
+
+static void add_first(Set *set, uint32_t *out, uint32_t c)
+{
+    Row row;
+    if (first_row(set, c, &row))
+        add_row(set, out, &row);
+}
+
+static uint32_t index_of(const Set *set, uint32_t v)
+{
+    uint32_t i = 0;
+    while (set->value[i] != v)
+        i++;
+    return i;
+}
+
+/* The prefixes of c in canonic form, shortest first: c without its last digit has the prefixes before c. */
+static void add_prefixes(Set *set, uint32_t *out, uint32_t c)
+{
+    if (c == 1)
+        return;
+    uint32_t s = c % 4 == 3, rest = s ? c + 1 : c - 1, gap = (uint32_t)__builtin_ctz(rest);
+    add_prefixes(set, out, rest >> gap);
+    if (in(set->value, set->count, c))
+        return;
+    Row row = {{index_of(set, rest >> gap), 0, gap, 0, s, 0, c}};
+    add_row(set, out, &row);
+}
+
+/* One turn of the rule, for constants that are not ready. */
+static void turn(Set *set, uint32_t *out, const uint32_t *left, int count)
+{
+    for (int i = 0; i < count; i++)
+        if (reached(set, left[i])) {
+            add_first(set, out, left[i]);
+            return;
+        }
+    for (int i = 0; i < count; i++) {
+        uint32_t s = server(set, left[i], 1);
+        if (s) {
+            add_first(set, out, s);
+            add_first(set, out, left[i]);
+            return;
+        }
+    }
+    add_prefixes(set, out, left[0]);
+}
+
+static int without_ready(const Set *set, uint32_t *left, int count)
+{
+    int kept = 0;
+    for (int i = 0; i < count; i++)
+        if (!in(set->value, set->count, left[i]))
+            left[kept++] = left[i];
+    return kept;
+}
+
+static int generate(uint32_t b, const uint32_t *wanted, int count, uint32_t *out)
+{
+    Set set;
+    uint32_t left[MOST_TARGETS];
+    memcpy(left, wanted, (size_t)count * sizeof *left);
+    start(&set, b + 1);
+    include(&set, 1);
+    while ((count = without_ready(&set, left, count)) > 0)
+        turn(&set, out, left, count);
+    return set.count - 1;
+}
