@@ -60,7 +60,7 @@ def settled(times):
 def best(commands, cases, runs):
     """The programs take turns, so that a slow moment of the machine does not fall on one of them alone."""
     rounds = []
-    while len(rounds) < runs or (len(rounds) < 3 * runs and not all(map(settled, zip(*rounds)))):
+    while len(rounds) < runs or (len(rounds) < 2 * runs and not all(map(settled, zip(*rounds)))):
         rounds.append([run(command, cases, "/dev/null") for command in commands])
     return [min(times) for times in zip(*rounds)]
 
