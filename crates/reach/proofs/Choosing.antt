@@ -1,12 +1,12 @@
 -- The ascending scan over two maps is step B's choice: the first map holds what one operation reaches, the second the values with which one
 -- operation gives the constant. Assumes nothing.
-use mathlib.Core.Path.{_≡_, refl, sym, ap, ap₂, _∙_}
-use mathlib.Core.Bool.{Bool, true, false, _||_, _&&_, cond}
+use mathlib.Core.Path.{_≡_, refl, sym, ap, ap₂, subst, _∙_}
+use mathlib.Core.Bool.{Bool, true, false, _||_, _&&_, cond, or-false, or-assoc, or-comm}
 use mathlib.Core.List.{List, [], _∷_, map, List·Memᴰ, List·Memᴰ·head, List·Memᴰ·tail, List·Memᴰ·not-nil, List·Memᴰ·cases-cons}
 use mathlib.Core.Logic.{⊎-elim}
 use mathlib.Core.Option.{Option, some, none}
 use Prim.Native.Nat.{ℕ, zero, suc, _+_, _-_, _*_, _%_, _^_, _≤_, _<_, min}
-use native.Mathlib.Nat.{pow-succ'}
+use native.Mathlib.Nat.{eq-or-lt-of-le, eq-zero-or-pos, pow-succ'}
 use native.Mathlib.Numerals.{add-one}
 use native.Mathlib.Omega.{arith}
 use lib.Dec.{eqb}
@@ -20,7 +20,7 @@ use Rattle.meaning.proofs.Scan.{first-none, first-some, first-map}
 use Rattle.reach.specs.declared.Choice.the-variants.{At, Nothing}
 use Rattle.reach.specs.Sides.{with?, twice?}
 use Rattle.reach.specs.Marks.{Holds, Adds, Ready}
-use Rattle.reach.specs.Choices.{used, serving, pick, chosenIn, both?, probe, scanned}
+use Rattle.reach.specs.Choices.{used, serving, pick, chosenIn, both?, met, Apart, probe, scanned}
 use Rattle.reach.proofs.Marks.{holds-then, eqb-bit}
 use Rattle.reach.proofs.Serves.{AllOdd, some-bits, serves-is}
 use Rattle.reach.proofs.Scan.{used-none, used-some, first-same, used-same, used-map}
@@ -68,11 +68,63 @@ module _ (f : ℕ → Option ℕ) (e : ℕ) where
       let q : used f (upFrom 1 (e - 1)) ≡ t = omega (arith, s .uses ∙ ap (λ (x : ℕ). t + used f (upFrom k x)) z) in
       sym (ap₂ pick (s .first ∙ ap (λ (x : ℕ). firstSome f (upFrom k x)) z) q)
 
+  -- over numbers that give nothing
+  pub scan-over : (n : ℕ) → n < e → ((j : ℕ) → 1 ≤ j → j < n + 1 → f j ≡ none) → Scan f e (n + 1) n
+  scan-over zero h clear = scan-start (omega arith)
+  scan-over (suc n) h clear =
+      subst (λ (x : ℕ). Scan f e (x + 1) x) (add-one n)
+      (scan-pass (n + 1) n (scan-over n (omega arith) (λ j l u. clear j l (omega arith))) (omega arith) (clear (n + 1) (omega arith) (omega arith)))
+
 pub probe-hit : (a b : List ℕ) (k : ℕ) → both? a b k ≡ true → probe a b k ≡ some (2 * k + 1)
 probe-hit a b k e = ap (λ (t : Bool). cond t (some (2 * k + 1)) none) e
 
 pub probe-none : (a b : List ℕ) (k : ℕ) → both? a b k ≡ false → probe a b k ≡ none
 probe-none a b k e = ap (λ (t : Bool). cond t (some (2 * k + 1)) none) e
+
+-- ---- blocks of both maps
+
+pub met-none : (a b : List ℕ) (k : ℕ) → met a b k 0 ≡ false
+unfolding met
+met-none a b k = refl
+
+any-next : (f : ℕ → Bool) (k n : ℕ) → any f (upFrom k (n + 1)) ≡ (any f (upFrom k n) || f (k + n))
+any-next f k zero = let e : k ≡ k + 0 = omega arith in or-false (f k) ∙ ap f e
+any-next f k (suc n) =
+    let e : suc n + 1 ≡ suc (n + 1) = omega arith in
+    let g : suc k + n ≡ k + suc n = omega arith in
+    ap (λ (m : ℕ). any f (upFrom k m)) e
+    ∙ ap (λ (t : Bool). f k || t) (any-next f (suc k) n ∙ ap (λ (m : ℕ). any f (upFrom (suc k) n) || f m) g)
+    ∙ sym (or-assoc (f k) (any f (upFrom (suc k) n)) (f (k + suc n)))
+
+pub met-next : (a b : List ℕ) (k n : ℕ) → met a b k (n + 1) ≡ (met a b k n || both? a b (k + n))
+unfolding met
+met-next a b k n = any-next (both? a b) k n
+
+or-left : (x y : Bool) → (x || y) ≡ false → x ≡ false
+or-left false y h = refl
+or-left true y h = h
+
+or-right : (x y : Bool) → (x || y) ≡ false → y ≡ false
+or-right x y h = or-left y x (or-comm y x ∙ h)
+
+none-of : (f : ℕ → Bool) (k n : ℕ) → any f (upFrom k n) ≡ false → (j : ℕ) → k ≤ j → j < k + n → f j ≡ false
+none-of f k zero h j l u = absurd (omega arith)
+none-of f k (suc n) h j l u =
+    ⊎-elim (λ e. ap f (sym e) ∙ or-left (f k) _ h) (λ m. none-of f (suc k) n (or-right (f k) _ h) j (omega arith) (omega arith)) (eq-or-lt-of-le l)
+
+module _ (a b : List ℕ) (k e : ℕ) where
+  pub apart-start : k ≤ e → Apart a b k e k
+  apart-start h = record { from = omega arith; to = h; none-before = λ j l u. absurd (omega arith) }
+
+  pub apart-pass : (m : ℕ) → Apart a b k e m → m + 64 ≤ e → met a b m 64 ≡ false → Apart a b k e (m + 64)
+  unfolding met
+  apart-pass m s h n =
+      record {
+        from = omega (arith, s .from);
+        to = h;
+        none-before = λ j l u.
+            ⊎-elim (λ z. none-of (both? a b) m 64 n j (omega (arith, z)) u) (λ p. s .none-before j l (omega (arith, p))) (eq-zero-or-pos (m - j));
+      }
 
 -- ---- the first k candidates
 
@@ -130,6 +182,24 @@ module _ (f : ℕ → Bool) (e k : ℕ) {t : Bool} (s : t ≡ any f (upFrom k (e
 
   pub any-end : e ≤ k → false ≡ t
   any-end h = let z : e - k ≡ 0 = omega arith in sym (s ∙ ap (λ (n : ℕ). any f (upFrom k n)) z)
+
+-- over numbers that do not pass
+any-over : (f : ℕ → Bool) (e n : ℕ) → n ≤ e → ((j : ℕ) → j < n → f j ≡ false) → any f (upFrom 0 e) ≡ any f (upFrom n (e - n))
+any-over f e zero h clear = any-start f e
+any-over f e (suc n) h clear =
+    any-pass f e n (any-over f e n (omega arith) (λ j u. clear j (omega arith))) (omega arith) (clear n (omega arith))
+    ∙ ap (λ (x : ℕ). any f (upFrom x (e - x))) (add-one n)
+
+pub apart-scan : (a b : List ℕ) (e m : ℕ) → Apart a b 1 e m → Scan (probe a b) e m (m - 1)
+apart-scan a b e m s =
+    let low = s .from in
+    let high = s .to in
+    let g : m - 1 + 1 ≡ m = omega arith in
+    subst (λ (x : ℕ). Scan (probe a b) e x (m - 1)) g
+    (scan-over (probe a b) e (m - 1) (omega arith) (λ j l u. probe-none a b j (s .none-before j l (omega arith))))
+
+pub apart-any : (a b : List ℕ) (e m : ℕ) → Apart a b 0 e m → any (both? a b) (upFrom 0 e) ≡ any (both? a b) (upFrom m (e - m))
+apart-any a b e m s = any-over (both? a b) e m (s .to) (λ j h. s .none-before j (omega arith) h)
 
 -- ---- the maps hold what the definition asks
 

@@ -1,11 +1,12 @@
 -- Step B's choice for one constant: the smallest s that serves it, and the number of candidates tried. Assumes nothing.
-use mathlib.Core.Bool.{Bool, _&&_, cond}
+use mathlib.Core.Path.{_≡_}
+use mathlib.Core.Bool.{Bool, false, _&&_, cond}
 use mathlib.Core.List.{List, [], _∷_}
 use mathlib.Core.Option.{Option, some, none}
-use Prim.Native.Nat.{ℕ, suc, _+_, _-_, _*_}
+use Prim.Native.Nat.{ℕ, suc, _+_, _-_, _*_, _≤_, _<_}
 use lib.Dec.{eqb}
 use lib.ListN.{getD, take}
-use Rattle.meaning.specs.Basics.{upFrom, firstSome}
+use Rattle.meaning.specs.Basics.{any, upFrom, firstSome}
 use Rattle.meaning.specs.Distance.{serves?, candidates}
 use Rattle.reach.specs.declared.Choice.{Choice}
 use Rattle.reach.specs.declared.Choice.the-variants.{At, Nothing}
@@ -33,6 +34,16 @@ chosenIn L vals c k = pick (firstSome (serving L vals c) (take k (candidates L))
 -- both maps have 2k + 1 marked
 abbrev pub both? : List ℕ → List ℕ → ℕ → Bool
 both? a b k = eqb (getD a k 0) 1 && eqb (getD b k 0) 1
+
+-- both maps have one of the n numbers from 2k + 1 on marked
+unfoldable pub met : List ℕ → List ℕ → ℕ → ℕ → Bool
+met a b k n = any (both? a b) (upFrom k n)
+
+-- m is from k to e, and before it the maps have nothing in common from k on
+pub record Apart (a b : List ℕ) (k e m : ℕ) : Type 0 where
+  pub from : k ≤ m
+  pub to : m ≤ e
+  pub none-before : (j : ℕ) → k ≤ j → j < m → both? a b j ≡ false
 
 abbrev pub probe : List ℕ → List ℕ → ℕ → Option ℕ
 probe a b k = cond (both? a b k) (some (2 * k + 1)) none

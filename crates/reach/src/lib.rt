@@ -10,7 +10,7 @@ ghost use Rattle.meaning.specs.Operation.{size};
 ghost use Rattle.meaning.specs.Distance.{oneOp?, reach?, serves?, candidates};
 ghost use Rattle.reach.specs.Sides.{hits?, sideTo?, with?, twice?};
 ghost use Rattle.reach.specs.Marks.{Holds, Adds, marked, Wide, Ready, State};
-ghost use Rattle.reach.specs.Choices.{both?, scanned, chosenIn};
+ghost use Rattle.reach.specs.Choices.{both?, met, Apart, scanned, chosenIn};
 
 // The smallest value that serves and the candidates tried, or only these.
 pub enum Choice {
@@ -157,7 +157,7 @@ fn partners(map: &mut [u8], top: u32, ready: &[u32], n: usize, c: u32)
     twice(map, top, c);
 }
 
-// Both maps have 2k + 1 marked.
+// Both maps have 2k + 1 marked. Both bytes are read, whatever the first says, so that many can be looked at together.
 fn both(a: &[u8], b: &[u8], k: usize) -> bool
     requires { ⌜ (k < length (now a)) × (k < length (now b)) ⌝ }
     ensures { λ r. ⌜ r ≡ both? (now (a .entry)) (now (b .entry)) k ⌝ }
@@ -165,13 +165,43 @@ fn both(a: &[u8], b: &[u8], k: usize) -> bool
     (a[k] == 1) & (b[k] == 1)
 }
 
+// Both maps have one of the 64 odd numbers from 2k + 1 on marked. No byte ends the loop, so that the machine looks at many
+// bytes together.
+fn meet_near(a: &[u8], b: &[u8], k: usize) -> bool
+    requires { ⌜ (k + 64 ≤ length (now a)) × (k + 64 ≤ length (now b)) ⌝ }
+    ensures { λ r. ⌜ r ≡ met (now (a .entry)) (now (b .entry)) k 64 ⌝ }
+{
+    let mut found = false;
+    let mut i: usize = 0;
+    while i < 64 {
+        found = found | both(a, b, k + i);
+        i += 1;
+    }
+    found
+}
+
+// A place from which on fewer than 64 are left or the maps meet among the next 64; before it they do not.
+fn apart_to(a: &[u8], b: &[u8], from: usize, end: usize) -> usize
+    requires { ⌜ (from ≤ end) × (end ≤ length (now a)) × (end ≤ length (now b)) ⌝ }
+    ensures { λ r. ⌜ Apart (now (a .entry)) (now (b .entry)) from end r ⌝ }
+{
+    let mut k = from;
+    while end - k >= 64 {
+        if meet_near(a, b, k) {
+            return k;
+        }
+        k += 64;
+    }
+    k
+}
+
 // The first of 3, 5, .. below 2 × end that both maps have marked.
 fn smallest(reach: &[u8], serve: &[u8], end: usize) -> Choice
     requires { ⌜ (1 ≤ end) × (end ≤ 262144) × (end ≤ length (now reach)) × (end ≤ length (now serve)) ⌝ }
     ensures { λ r. ⌜ r ≡ scanned (now (reach .entry)) (now (serve .entry)) end ⌝ }
 {
-    let mut tried: u32 = 0;
-    let mut k: usize = 1;
+    let mut k = apart_to(reach, serve, 1, end);
+    let mut tried = (k - 1) as u32;
     while k < end {
         tried += 1;
         if both(reach, serve, k) {
@@ -190,7 +220,7 @@ fn meet(a: &[u8], b: &[u8], end: usize) -> bool
     requires { ⌜ (end ≤ length (now a)) × (end ≤ length (now b)) ⌝ }
     ensures { λ r. ⌜ r ≡ any (both? (now (a .entry)) (now (b .entry))) (upFrom 0 end) ⌝ }
 {
-    let mut k: usize = 0;
+    let mut k = apart_to(a, b, 0, end);
     while k < end {
         if both(a, b, k) {
             return true;

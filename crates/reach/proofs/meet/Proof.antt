@@ -5,7 +5,7 @@ use native.Mathlib.Omega.{arith}
 use borrow.Author.Needs.{needs}
 use Rattle.meaning.specs.Basics.{any, upFrom}
 use Rattle.reach.specs.Choices.{both?}
-use Rattle.reach.proofs.Choosing.{any-start, any-pass, any-hit, any-end}
+use Rattle.reach.proofs.Choosing.{apart-any, any-pass, any-hit, any-end}
 use Rattle.reach.proofs.meet.Statement.{statement}
 use Rattle.reach.proofs.meet.Tie as tie
 
@@ -15,10 +15,14 @@ Inv-loop a b end k₀ k = (k ≤ end) × (any (both? a b) (upFrom 0 end) ≡ any
 abbrev μ-loop : tie.MeasureT-loop
 μ-loop a b end k₀ k = end - k
 
+apart-to-requires : tie.Need-apart-to-requires Inv-loop μ-loop
+apart-to-requires c κs = search needs
+
 loop-holds : tie.Need-loop-holds Inv-loop μ-loop
 loop-holds c =
-    let a = c .before .before .args in
-    (omega arith, any-start (both? (a .a .now) (a .b .now)) (a .end))
+    let a = c .before .before .before .args in
+    let s = c .apart-to .ensures in
+    (s .to, apart-any (a .a .now) (a .b .now) (a .end) (c .apart-to .result) s)
 
 both-requires : tie.Need-both-requires Inv-loop μ-loop
 both-requires c κs = search needs
@@ -26,7 +30,7 @@ both-requires c κs = search needs
 returns : tie.Need-returns Inv-loop μ-loop
 returns c =
     let at = c .before .before .before in
-    let a = at .before .before .before .args in
+    let a = at .before .before .before .before .args in
     any-hit (both? (a .a .now) (a .b .now)) (a .end) (at .loop .k) (at .loop .inv .1)
     (c .before .before .loop-test .taken) (sym (c .before .both .ensures) ∙ c .if1 .taken)
 
@@ -39,7 +43,7 @@ loop-less c = search needs
 loop-again : tie.Need-loop-again Inv-loop μ-loop
 loop-again c =
     let at = c .before .before .before in
-    let a = at .before .before .before .args in (
+    let a = at .before .before .before .before .args in (
       omega (arith, at),
       any-pass (both? (a .a .now) (a .b .now)) (a .end) (at .loop .k) (at .loop .inv .1)
           (c .before .before .loop-test .taken) (sym (c .before .both .ensures) ∙ c .if1 .left),
@@ -48,10 +52,10 @@ loop-again c =
 returns-2 : tie.Need-returns-2 Inv-loop μ-loop
 returns-2 c =
     let at = c .before in
-    let a = at .before .before .before .args in
+    let a = at .before .before .before .before .args in
     any-end (both? (a .a .now) (a .b .now)) (a .end) (at .loop .k) (at .loop .inv .1) (c .loop-test .left)
 
 pub meet-spec : {M : Type 1} → statement M
 meet-spec =
     tie.close
-    (tie.spec Inv-loop μ-loop loop-holds both-requires returns add-k loop-less loop-again returns-2)
+    (tie.spec Inv-loop μ-loop apart-to-requires loop-holds both-requires returns add-k loop-less loop-again returns-2)
