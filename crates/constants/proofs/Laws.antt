@@ -11,7 +11,7 @@ use lib.Signed.{ltZ}
 use Rattle.meaning.specs.declared.Parts.{Parts}
 use Rattle.meaning.specs.Basics.{zerosIn, zeros}
 use Rattle.meaning.specs.Constants.{apart}
-use Rattle.meaning.proofs.Zeros.{machine-is}
+use Rattle.laws.proofs.Zeros.{machine-is}
 
 -- the parts as code finds them from a sign and the magnitude m
 abbrev pub found : ℤ → ℕ → Parts

@@ -12,10 +12,10 @@ use lib.Seq.{lt-length-set, drop-cons, drop-set-lt, getD-set-same, append-snoc, 
 use Rattle.meaning.specs.declared.Prefix.{Prefix}
 use Rattle.meaning.specs.Basics.{zeros}
 use Rattle.meaning.specs.Digits.{prefixes}
-use Rattle.meaning.proofs.Zeros.{zeros-left}
-use Rattle.meaning.proofs.Prefixes.{peel-plus, peel-minus, prefixes-zero, prefixes-one, prefixes-odd}
-use Rattle.meaning.proofs.Count.{few-seventeen}
-use Rattle.meaning.proofs.Chain.{length-prefixes}
+use Rattle.laws.proofs.Zeros.{zeros-left}
+use Rattle.laws.proofs.Prefixes.{peel-plus, peel-minus, prefixes-zero, prefixes-one, prefixes-odd}
+use Rattle.laws.proofs.Count.{few-seventeen}
+use Rattle.laws.proofs.Chain.{length-prefixes}
 use Rattle.digits.specs.Held.{nothing, held, prefixesHeld, near, endSign, oddPart, lastPrefix}
 
 pub odd-zero : oddPart 0 ≡ 0

@@ -12,9 +12,9 @@ use Rattle.meaning.specs.Basics.{has, after}
 use Rattle.meaning.specs.Graph.{rowLength, words, flat, values}
 use Rattle.meaning.specs.Distance.{reach?}
 use Rattle.meaning.specs.Generator.{ruleC}
-use Rattle.meaning.proofs.Graphs.{length-flat, flat-append}
-use Rattle.meaning.proofs.Steps.{rule-c-ready, rule-c-row, rule-c-end}
-use Rattle.meaning.proofs.Over.{length-after, after-part, after-none}
+use Rattle.laws.proofs.Graphs.{length-flat, flat-append}
+use Rattle.laws.proofs.Steps.{rule-c-ready, rule-c-row, rule-c-end}
+use Rattle.laws.proofs.Over.{length-after, after-part, after-none}
 use Rattle.ready.specs.declared.Ready.{Ready}
 use Rattle.ready.specs.Listed.{listed, Added}
 use Rattle.ready.proofs.Laws.{grown-room}

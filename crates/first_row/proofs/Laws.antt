@@ -12,9 +12,9 @@ use Rattle.meaning.specs.Basics.{upFrom, zeros, firstSome}
 use Rattle.meaning.specs.Operation.{size, Valid, Outcome}
 use Rattle.meaning.specs.Distance.{gives?, shiftPairs}
 use Rattle.meaning.specs.Generator.{chosen, rowFor}
-use Rattle.meaning.proofs.Tests.{true-of, false-of}
-use Rattle.meaning.proofs.Reach.{gives-of-test, test-of-gives}
-use Rattle.meaning.proofs.Scan.{step, first-step, first-append, first-map, scan-miss, scan-hit, scan-end}
+use Rattle.laws.proofs.Tests.{true-of, false-of}
+use Rattle.laws.proofs.Reach.{gives-of-test, test-of-gives}
+use Rattle.laws.proofs.Scan.{step, first-step, first-append, first-map, scan-miss, scan-hit, scan-end}
 use Rattle.first_row.specs.declared.Pair.{Pair}
 use Rattle.first_row.specs.declared.Found.{Found}
 use Rattle.first_row.specs.declared.Found.the-variants.{At, Missing}

@@ -19,11 +19,11 @@ use Rattle.meaning.specs.Constants.{wanted}
 use Rattle.meaning.specs.Graph.{rowLength, flat}
 use Rattle.meaning.specs.Generator.{turns, generated}
 use Rattle.meaning.specs.Refusals.{mostRows, buffer, fewRows, admitOrder, admitted, Done, given, orRows, drawn, drawnTold, rowsWritten}
-use Rattle.meaning.proofs.Stages.{stops, stops-at, passes-on, over-none}
-use Rattle.meaning.proofs.Chain.{prefix-row}
-use Rattle.meaning.proofs.Checked.{Admitted}
-use Rattle.meaning.proofs.Wanted.{all-wanted}
-use Rattle.meaning.proofs.Generated.{drawn-is}
+use Rattle.laws.proofs.Stages.{stops, stops-at, passes-on, over-none}
+use Rattle.laws.proofs.Chain.{prefix-row}
+use Rattle.laws.proofs.Checked.{Admitted}
+use Rattle.laws.proofs.Wanted.{all-wanted}
+use Rattle.laws.proofs.Generated.{drawn-is}
 use Rattle.generator.specs.Rule.{AllServable}
 
 -- ---- the wanted set

@@ -17,9 +17,9 @@ use Rattle.meaning.specs.Digits.{prefixes}
 use Rattle.meaning.specs.Graph.{values}
 use Rattle.meaning.specs.Distance.{reach?}
 use Rattle.meaning.specs.Generator.{rowFor, remaining, ruleA, serve, ruleB, ruleC, orRows, turn}
-use Rattle.meaning.proofs.Tests.{true-of, false-of}
-use Rattle.meaning.proofs.Choices.{got, found, first-from, first-got, getD-in, row-from, got-row}
-use Rattle.meaning.proofs.Steps.{near as reached, rule-a-is, remaining-ready, remaining-left, remaining-end}
+use Rattle.laws.proofs.Tests.{true-of, false-of}
+use Rattle.laws.proofs.Choices.{got, found, first-from, first-got, getD-in, row-from, got-row}
+use Rattle.laws.proofs.Steps.{near as reached, rule-a-is, remaining-ready, remaining-left, remaining-end}
 use Rattle.constants.specs.declared.Wanted.{Wanted}
 use Rattle.constants.specs.Held.{kept}
 use Rattle.draft.specs.Growth.{atMostOne}

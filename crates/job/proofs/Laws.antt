@@ -17,8 +17,8 @@ use Rattle.meaning.specs.declared.Read.{Read}
 use Rattle.meaning.specs.declared.Read.the-variants.{Number, Bad}
 use Rattle.meaning.specs.Text.{bytes, stands, numberAt}
 use Rattle.meaning.specs.Job.{Asked, Job, asks, malformed, Line, good, bad, onRead, front, next, numberLine, reportLine, numbers, targetsLine, jobOf}
-use Rattle.meaning.proofs.Numerals.{number-read}
-use Rattle.meaning.proofs.Texts.{stands-within}
+use Rattle.laws.proofs.Numerals.{number-read}
+use Rattle.laws.proofs.Texts.{stands-within}
 use Rattle.job.specs.declared.Asks.the-variants.{Wants, Malformed}
 use Rattle.job.specs.Held.{noTargets, parsedOf}
 

@@ -16,9 +16,9 @@ use Rattle.meaning.specs.Graph.{rowLength, rowAt, rows}
 use Rattle.meaning.specs.Listing.{after, pieces, fieldText, rowLine, rowText, rowTexts, outText, outTexts}
 use Rattle.meaning.specs.Text.{bytes}
 use Rattle.meaning.specs.Widths.{rowWidth}
-use Rattle.meaning.proofs.Choices.{getD-in}
-use Rattle.meaning.proofs.Graphs.{row-of}
-use Rattle.meaning.proofs.Wanted.{wanted-in}
+use Rattle.laws.proofs.Choices.{getD-in}
+use Rattle.laws.proofs.Graphs.{row-of}
+use Rattle.laws.proofs.Wanted.{wanted-in}
 use Rattle.text.specs.Wrote.{Wrote}
 use Rattle.text.proofs.Writing.{_⨾_, same-text}
 use Rattle.listing.specs.Parts.{frontFields, backFields, rowFront, rowBack}

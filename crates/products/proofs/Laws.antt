@@ -13,14 +13,14 @@ use native.Mathlib.Omega.{arith}
 use Rattle.numbers.proofs.Integers.{abs-add, abs-sub, abs-mul, abs-neg}
 use Rattle.meaning.specs.declared.Row.{Row}
 use Rattle.meaning.specs.Basics.{every}
-use Rattle.meaning.proofs.Tests.{both-of, in-every}
-use Rattle.meaning.proofs.Checked.{good-of}
+use Rattle.laws.proofs.Tests.{both-of, in-every}
+use Rattle.laws.proofs.Checked.{good-of}
 use Rattle.meaning.specs.declared.Answer.the-variants.{Accepted}
 use Rattle.meaning.specs.Limits.{limit}
 use Rattle.meaning.specs.Refusals.{checked}
 use Rattle.meaning.specs.Graph.{rowLength, rowAt, rows, ready, served?}
 use Rattle.meaning.specs.Products.{turned?, joined, turnedBy, rowProduct, productsFrom, products, targetProduct, targetProducts}
-use Rattle.meaning.proofs.Products.{products-more}
+use Rattle.laws.proofs.Products.{products-more}
 use Rattle.products.specs.Worked.{worked, Within, Next, Graph, targetFrom}
 
 -- as code meets a sign that is not 0

@@ -17,9 +17,9 @@ use Rattle.meaning.specs.Basics.{zerosIn, zeros}
 use Rattle.meaning.specs.Constants.{signOf, shiftOf, oddOf}
 use Rattle.meaning.specs.Graph.{rowLength, rowAt, rows, ready, served?, outputIndex}
 use Rattle.meaning.specs.Products.{products}
-use Rattle.meaning.proofs.Zeros.{zeros-whole, zeros-left, zeros-low}
-use Rattle.meaning.proofs.Graphs.{length-ready}
-use Rattle.meaning.proofs.Products.{product-at, products-are, sound-at, odds-ready, fits-low, index-inside, served-index}
+use Rattle.laws.proofs.Zeros.{zeros-whole, zeros-left, zeros-low}
+use Rattle.laws.proofs.Graphs.{length-ready}
+use Rattle.laws.proofs.Products.{product-at, products-are, sound-at, odds-ready, fits-low, index-inside, served-index}
 use Rattle.products.specs.Worked.{Next, Graph}
 
 pub abs-32 : (x : ℤ) → SFits w32 x → natAbs x ≤ 2 ^ 31

@@ -14,9 +14,9 @@ use lib.ListN.{length, getD, take}
 use lib.Pow.{pow-mono, pow-pos}
 use Rattle.meaning.specs.Basics.{any, upFrom, firstSome}
 use Rattle.meaning.specs.Distance.{reach?, serves?, candidates}
-use Rattle.meaning.proofs.Tests.{up-in}
-use Rattle.meaning.proofs.Inverse.{Odd}
-use Rattle.meaning.proofs.Scan.{first-none, first-some, first-map}
+use Rattle.laws.proofs.Tests.{up-in}
+use Rattle.laws.proofs.Inverse.{Odd}
+use Rattle.laws.proofs.Scan.{first-none, first-some, first-map}
 use Rattle.reach.specs.declared.Choice.the-variants.{At, Nothing}
 use Rattle.reach.specs.Sides.{with?, twice?}
 use Rattle.reach.specs.Marks.{Holds, Adds, Ready}

@@ -14,8 +14,8 @@ use lib.Seq.{getD-set-same, getD-set-other, take-suc, take-suc-set}
 use Rattle.meaning.specs.Basics.{any, zeros}
 use Rattle.meaning.specs.Operation.{size}
 use Rattle.meaning.specs.Distance.{oneOp?, reach?}
-use Rattle.meaning.proofs.Tests.{eq→eqb, true-of, false-of}
-use Rattle.meaning.proofs.Zeros.{zeros-left}
+use Rattle.laws.proofs.Tests.{eq→eqb, true-of, false-of}
+use Rattle.laws.proofs.Zeros.{zeros-left}
 use Rattle.reach.specs.Sides.{hits?, at?, sideTo?, with?, factor?, twice?}
 use Rattle.reach.specs.Marks.{bit, markOf, Holds, Adds, marked, Wide, State}
 use Rattle.reach.proofs.Sides.{any-up, hit-outcome, outcome-hit, one-self, reach-add}

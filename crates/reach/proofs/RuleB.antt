@@ -12,12 +12,12 @@ use Rattle.meaning.specs.declared.Row.{Row}
 use Rattle.meaning.specs.Basics.{firstSome, andThen}
 use Rattle.meaning.specs.Distance.{reach?, serves?, candidates}
 use Rattle.meaning.specs.Generator.{rowFor, trials, serve, ruleB}
-use Rattle.meaning.proofs.Choices.{found, first-from, then-from}
-use Rattle.meaning.proofs.Inverse.{Odd}
-use Rattle.meaning.proofs.Reach.{reach-is, reached-odd}
-use Rattle.meaning.proofs.Rules.{serve-got}
-use Rattle.meaning.proofs.Scan.{step, first-step, first-append, first-map}
-use Rattle.meaning.proofs.Tests.{both-of, T-of}
+use Rattle.laws.proofs.Choices.{found, first-from, then-from}
+use Rattle.laws.proofs.Inverse.{Odd}
+use Rattle.laws.proofs.Reach.{reach-is, reached-odd}
+use Rattle.laws.proofs.Rules.{serve-got}
+use Rattle.laws.proofs.Scan.{step, first-step, first-append, first-map}
+use Rattle.laws.proofs.Tests.{both-of, T-of}
 use Rattle.reach.specs.declared.Choice.the-variants.{At, Nothing}
 use Rattle.reach.specs.Choices.{used, serving, pick, chosenIn}
 use Rattle.reach.proofs.Scan.{first-take, through, first-through, used-through}

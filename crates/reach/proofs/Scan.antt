@@ -7,9 +7,9 @@ use Prim.Native.Nat.{ℕ, zero, suc, _≤_}
 use native.Mathlib.Omega.{arith}
 use lib.ListN.{length, take}
 use Rattle.meaning.specs.Basics.{firstSome, andThen}
-use Rattle.meaning.proofs.Tests.{T-of}
-use Rattle.meaning.proofs.Choices.{got, found}
-use Rattle.meaning.proofs.Scan.{step, first-step, first-none, first-some}
+use Rattle.laws.proofs.Tests.{T-of}
+use Rattle.laws.proofs.Choices.{got, found}
+use Rattle.laws.proofs.Scan.{step, first-step, first-none, first-some}
 use Rattle.reach.specs.Choices.{used}
 
 abbrev count {κ} : {B : Type κ} → Option B → ℕ → ℕ

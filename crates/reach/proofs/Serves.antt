@@ -11,10 +11,10 @@ use lib.Dec.{T, eqb, eqb→eq}
 use lib.Pow.{pow-pos}
 use Rattle.meaning.specs.Basics.{upFrom}
 use Rattle.meaning.specs.Distance.{oneOp?, reach?}
-use Rattle.meaning.proofs.Tests.{bool-ext, eq→eqb, any-in, in-any, either-of, of-left, of-right, in-up, up-in}
-use Rattle.meaning.proofs.Zeros.{zeros-unique}
-use Rattle.meaning.proofs.Inverse.{Odd, Balance, sum, difference, Balanced, balanced-of, gives-of, lemma-5-2}
-use Rattle.meaning.proofs.Reach.{one-is, reach-is}
+use Rattle.laws.proofs.Tests.{bool-ext, eq→eqb, any-in, in-any, either-of, of-left, of-right, in-up, up-in}
+use Rattle.laws.proofs.Zeros.{zeros-unique}
+use Rattle.laws.proofs.Inverse.{Odd, Balance, sum, difference, Balanced, balanced-of, gives-of, lemma-5-2}
+use Rattle.laws.proofs.Reach.{one-is, reach-is}
 use Rattle.reach.specs.Sides.{with?, factor?, twice?}
 use Rattle.reach.proofs.Sides.{one-swap, reach-of}
 

@@ -11,10 +11,10 @@ use lib.Dec.{T}
 use Rattle.meaning.specs.Basics.{any, upFrom, zeros}
 use Rattle.meaning.specs.Operation.{size, Outcome, Valid, Gives}
 use Rattle.meaning.specs.Distance.{oneOp?, reach?}
-use Rattle.meaning.proofs.Tests.{bool-ext, any-in, in-any, either-of, of-left, of-right, in-up, up-in}
-use Rattle.meaning.proofs.Operations.{outcome-of-test, test-of-outcome}
-use Rattle.meaning.proofs.Inverse.{valid-swap, gives-swap}
-use Rattle.meaning.proofs.Reach.{one-is, reach-is, reached-within}
+use Rattle.laws.proofs.Tests.{bool-ext, any-in, in-any, either-of, of-left, of-right, in-up, up-in}
+use Rattle.laws.proofs.Operations.{outcome-of-test, test-of-outcome}
+use Rattle.laws.proofs.Inverse.{valid-swap, gives-swap}
+use Rattle.laws.proofs.Reach.{one-is, reach-is, reached-within}
 use Rattle.reach.specs.Sides.{hits?, at?, sideTo?, with?}
 
 of-either : (a b : Bool) → T a ⊎ T b → T (a || b)

@@ -16,10 +16,10 @@ use Rattle.meaning.specs.declared.Refusal.the-variants as no
 use Rattle.meaning.specs.Graph.{rows}
 use Rattle.meaning.specs.Widths.{ranking}
 use Rattle.meaning.specs.Refusals.{sizedOrder, buffer, firstOf, given, sized, ranked, rankingWritten}
-use Rattle.meaning.proofs.Stages.{passes-on, of-need}
+use Rattle.laws.proofs.Stages.{passes-on, of-need}
 use Rattle.meaning.specs.Basics.{upFrom, over}
 use Rattle.meaning.specs.Job.{natural}
-use Rattle.meaning.proofs.Over.{over-at}
+use Rattle.laws.proofs.Over.{over-at}
 
 pub below-zero : (z : ℤ) → ltZ z (pos 0) ≡ true → 0 ≡ natural z
 below-zero (pos n) e = absurd (let h : n < 0 = ltb-true n 0 e in omega arith)

@@ -20,12 +20,12 @@ use Rattle.meaning.specs.Generator.{generated}
 use Rattle.meaning.specs.Job.{Asked, natural, jobOrder}
 use Rattle.meaning.specs.Listing.{rowOrder, pieces, headText, rowTexts, outTexts, orRefused, refusedLine, replyTo, listing}
 use Rattle.meaning.specs.Refusals.{checkOrder, inputWidth, firstOf, sized, checked, admitted}
-use Rattle.meaning.proofs.Choices.{getD-in}
-use Rattle.meaning.proofs.Graphs.{length-rows}
-use Rattle.meaning.proofs.Jobs.{job-stops, job-passes}
-use Rattle.meaning.proofs.Ranking.{ranking-permutes}
-use Rattle.meaning.proofs.Stages.{stops, passes, passes-on, of-need}
-use Rattle.meaning.proofs.Tests.{up-in}
+use Rattle.laws.proofs.Choices.{getD-in}
+use Rattle.laws.proofs.Graphs.{length-rows}
+use Rattle.laws.proofs.Jobs.{job-stops, job-passes}
+use Rattle.laws.proofs.Ranking.{ranking-permutes}
+use Rattle.laws.proofs.Stages.{stops, passes, passes-on, of-need}
+use Rattle.laws.proofs.Tests.{up-in}
 use Rattle.listing.specs.Parts.{Order}
 use Rattle.reply.specs.Drawing.{Drawing}
 use Rattle.reply.proofs.Laws.{up-length}

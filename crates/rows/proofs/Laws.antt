@@ -15,11 +15,11 @@ use Rattle.meaning.specs.declared.Row.{Row}
 use Rattle.meaning.specs.Basics.{after}
 use Rattle.meaning.specs.Limits.{limit}
 use Rattle.meaning.specs.Graph.{rowLength, words, rowAt, rows, ready, fits?, rowFits}
-use Rattle.meaning.proofs.Graphs.{length-ready}
-use Rattle.meaning.proofs.Over.{after-sets}
+use Rattle.laws.proofs.Graphs.{length-ready}
+use Rattle.laws.proofs.Over.{after-sets}
 use Rattle.meaning.specs.Operation.{Valid, valid?, operated, operatedUnder, whole}
-use Rattle.meaning.proofs.Tests.{both-of, of-both, true-of, false-of, T-of, bool-ext, eq→eqb}
-use Rattle.meaning.proofs.Operations.{valid-of-test, test-of-valid, operated-made, operated-valid}
+use Rattle.laws.proofs.Tests.{both-of, of-both, true-of, false-of, T-of, bool-ext, eq→eqb}
+use Rattle.laws.proofs.Operations.{valid-of-test, test-of-valid, operated-made, operated-valid}
 
 module _ (b u v l1 l2 s : ℕ) where
   abbrev range : Bool

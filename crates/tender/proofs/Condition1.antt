@@ -28,11 +28,11 @@ use Rattle.meaning.specs.Generator.{generated}
 use Rattle.meaning.specs.Job.{Asked, Job, asks, malformed, jobOf, jobOrder, natural}
 use Rattle.meaning.specs.Listing.{rowOrder, answerOf, orRefused, replyTo, refusedLine, listing, jobText, printedTold, textWritten, textRoom}
 use Rattle.meaning.specs.Refusals.{need, needEach, mostRows, number, Done, given, orRows, orFar, firstOf, admitOrder, checkOrder, sizedOrder, productsOrder, widthsOrder, rankingOrder, generateOrder, distanceOrder, oddParts, buffer, rowCount, validRows, allServed, fewRows, inputWidth, readyValues, target, admitted, checked, multiplied, productsWritten, measured, widthsWritten, ranked, rankingWritten, drawn, drawnTold, rowsWritten, distanceTold}
-use Rattle.meaning.proofs.Tests.{All, all-of, of-all, true-of, false-of, T-of, in-every, every-in, both-of, of-both, either-of, of-left, of-right, eq→eqb}
-use Rattle.meaning.proofs.Ranking.{ranking-permutes, ranking-ordered}
-use Rattle.meaning.proofs.ReadBack.{read-back}
-use Rattle.meaning.proofs.Reach.{in-has, has-in}
-use Rattle.meaning.proofs.Stages.{never-both, refused-same, need-refuses, each-refuses, refuses-each, first-bad-row, bad-row-first, one-answer, one-done, over-none}
+use Rattle.laws.proofs.Tests.{All, all-of, of-all, true-of, false-of, T-of, in-every, every-in, both-of, of-both, either-of, of-left, of-right, eq→eqb}
+use Rattle.laws.proofs.Ranking.{ranking-permutes, ranking-ordered}
+use Rattle.laws.proofs.ReadBack.{read-back}
+use Rattle.laws.proofs.Reach.{in-has, has-in}
+use Rattle.laws.proofs.Stages.{never-both, refused-same, need-refuses, each-refuses, refuses-each, first-bad-row, bad-row-first, one-answer, one-done, over-none}
 use Rattle.tender.specs.Condition1.{Situation, First, Signed32, oddPartOut, bufferShort, rowCountOut, rowInvalid, oddPartMissing, rowsOver, widthOut, readyValueOut, targetOut, RefusedBy, admitTable, checkTable, sizedTable, generateTable, distanceTable, jobTable, Condition1}
 
 -- ---- stages and their situations

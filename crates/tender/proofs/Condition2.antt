@@ -18,14 +18,14 @@ use Rattle.meaning.specs.Graph.{rowLength, rowAt, rows, values, ready, Fits, So
 use Rattle.meaning.specs.Products.{targetProduct, targetProducts}
 use Rattle.meaning.specs.Widths.{ranking, InOrder}
 use Rattle.meaning.specs.Refusals.{mostRows, checkOrder, productsOrder, admitted, checked, sized, multiplied, productsWritten, given}
-use Rattle.meaning.proofs.Tests.{any-in, in-any, either-of, of-left, of-right, in-every}
-use Rattle.meaning.proofs.Operations.{size-is, Exact, exact-of, outcome-of}
-use Rattle.meaning.proofs.Graphs.{length-rows, sound-odd}
-use Rattle.meaning.proofs.Stages.{first-accepts, all-accept}
-use Rattle.meaning.proofs.Checked.{admitted-of, good-of, of-good, sized-of}
-use Rattle.meaning.proofs.Products.{products-are, target-product, target-products}
-use Rattle.meaning.proofs.Fewest.{row-fewest, shifted-fewest, output-fewest}
-use Rattle.meaning.proofs.Ranking.{ranking-permutes, ranking-ordered}
+use Rattle.laws.proofs.Tests.{any-in, in-any, either-of, of-left, of-right, in-every}
+use Rattle.laws.proofs.Operations.{size-is, Exact, exact-of, outcome-of}
+use Rattle.laws.proofs.Graphs.{length-rows, sound-odd}
+use Rattle.laws.proofs.Stages.{first-accepts, all-accept}
+use Rattle.laws.proofs.Checked.{admitted-of, good-of, of-good, sized-of}
+use Rattle.laws.proofs.Products.{products-are, target-product, target-products}
+use Rattle.laws.proofs.Fewest.{row-fewest, shifted-fewest, output-fewest}
+use Rattle.laws.proofs.Ranking.{ranking-permutes, ranking-ordered}
 use Rattle.tender.specs.Condition2.{AOperation, row, valueAt, ValidRow, EveryRowValid, EveryConstantMade, widthOf, Condition2}
 
 -- ---- the operation

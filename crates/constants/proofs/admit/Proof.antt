@@ -11,8 +11,8 @@ use lib.ListN.{length}
 use Rattle.meaning.specs.declared.Refusal.the-variants as no
 use Rattle.meaning.specs.Basics.{all}
 use Rattle.meaning.specs.Refusals.{admitted, listLength, oddParts}
-use Rattle.meaning.proofs.Tests.{pair-all, T-of, all-of}
-use Rattle.meaning.proofs.Stages.{stops, passes, last}
+use Rattle.laws.proofs.Tests.{pair-all, T-of, all-of}
+use Rattle.laws.proofs.Stages.{stops, passes, last}
 use Rattle.constants.proofs.admit.Statement.{statement}
 use Rattle.constants.proofs.admit.Tie as tie
 

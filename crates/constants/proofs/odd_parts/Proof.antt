@@ -15,7 +15,7 @@ use Rattle.meaning.specs.declared.Answer.the-variants.{Refused}
 use Rattle.meaning.specs.declared.Refusal.the-variants.{OddPart}
 use Rattle.meaning.specs.Constants.{oddOf, apart}
 use Rattle.meaning.specs.Refusals.{needEach, oddParts}
-use Rattle.meaning.proofs.Walks.{each-miss, each-hit, each-end}
+use Rattle.laws.proofs.Walks.{each-miss, each-hit, each-end}
 use Rattle.constants.proofs.odd_parts.Statement.{statement}
 use Rattle.constants.proofs.odd_parts.Tie as tie
 use Rattle.constants.proofs.odd_parts.Reads as reads

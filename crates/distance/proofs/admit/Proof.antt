@@ -11,8 +11,8 @@ use lib.ListN.{length}
 use Rattle.meaning.specs.declared.Refusal.the-variants as no
 use Rattle.meaning.specs.Basics.{all}
 use Rattle.meaning.specs.Refusals.{readyLength, readyValues, target, distanceOrder, firstOf}
-use Rattle.meaning.proofs.Tests.{pair-all, T-of, all-of}
-use Rattle.meaning.proofs.Stages.{stops, passes, last, stops-at, passes-on}
+use Rattle.laws.proofs.Tests.{pair-all, T-of, all-of}
+use Rattle.laws.proofs.Stages.{stops, passes, last, stops-at, passes-on}
 use Rattle.distance.proofs.admit.Statement.{statement}
 use Rattle.distance.proofs.admit.Tie as tie
 

@@ -13,8 +13,8 @@ use Rattle.meaning.specs.Basics.{has}
 use Rattle.meaning.specs.Distance.{distance}
 use Rattle.meaning.specs.Limits.{limit}
 use Rattle.meaning.specs.Refusals.{distanceTold}
-use Rattle.meaning.proofs.Choices.{getD-in}
-use Rattle.meaning.proofs.Distances.{distance-told, distance-refused, Askable, askable-of}
+use Rattle.laws.proofs.Choices.{getD-in}
+use Rattle.laws.proofs.Distances.{distance-told, distance-refused, Askable, askable-of}
 use Rattle.reach.specs.Marks.{Ready}
 use Rattle.distance.proofs.distance.Statement.{statement}
 use Rattle.distance.proofs.distance.Tie as tie

@@ -5,7 +5,7 @@ use native.Mathlib.Omega.{arith}
 use borrow.Author.Needs.{needs}
 use lib.ListN.{length, drop}
 use Rattle.meaning.specs.Basics.{has}
-use Rattle.meaning.proofs.Walks.{has-miss, has-hit, has-end}
+use Rattle.laws.proofs.Walks.{has-miss, has-hit, has-end}
 use Rattle.distance.proofs.listed.Statement.{statement}
 use Rattle.distance.proofs.listed.Tie as tie
 

@@ -11,7 +11,7 @@ use Rattle.meaning.specs.declared.Answer.the-variants.{Refused}
 use Rattle.meaning.specs.declared.Refusal.the-variants as no
 use Rattle.meaning.specs.Limits.{limit}
 use Rattle.meaning.specs.Refusals.{needEach, readyValues}
-use Rattle.meaning.proofs.Walks.{each-miss, each-hit, each-end}
+use Rattle.laws.proofs.Walks.{each-miss, each-hit, each-end}
 use Rattle.distance.proofs.ready_values.Statement.{statement}
 use Rattle.distance.proofs.ready_values.Tie as tie
 

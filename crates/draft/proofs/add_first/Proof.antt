@@ -3,7 +3,7 @@ use mathlib.Core.Path.{_≡_, sym, _∙_, subst⁻¹}
 use mathlib.Core.Option.{Option, some}
 use Rattle.meaning.specs.declared.Row.{Row}
 use Rattle.meaning.specs.Generator.{rowFor}
-use Rattle.meaning.proofs.Choices.{row-from}
+use Rattle.laws.proofs.Choices.{row-from}
 use Rattle.ready.specs.Listed.{listed}
 use Rattle.draft.specs.Growth.{Odd, Grown, atMostOne}
 use Rattle.draft.proofs.Laws.{missing-is, found-is, grown-none}

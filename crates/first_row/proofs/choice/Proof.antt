@@ -5,7 +5,7 @@ use native.Mathlib.Omega.{arith}
 use borrow.Author.Needs.{needs}
 use lib.Count.{trailingZeros}
 use Rattle.meaning.specs.Basics.{zeros}
-use Rattle.meaning.proofs.Zeros.{machine-is, zeros-low}
+use Rattle.laws.proofs.Zeros.{machine-is, zeros-low}
 use Rattle.first_row.specs.declared.Found.the-variants.{At}
 use Rattle.first_row.proofs.Laws.{choice-miss, choice-hit}
 use Rattle.first_row.proofs.choice.Statement.{statement}

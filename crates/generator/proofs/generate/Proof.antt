@@ -14,9 +14,9 @@ use Rattle.meaning.specs.Basics.{over}
 use Rattle.meaning.specs.declared.Row.{Row}
 use Rattle.meaning.specs.Generator.{turns, generated}
 use Rattle.meaning.specs.Refusals.{mostRows, admitted}
-use Rattle.meaning.proofs.Checked.{Admitted, admitted-of}
-use Rattle.meaning.proofs.Wanted.{wanted-length}
-use Rattle.meaning.proofs.Generated.{few-rows, drawn-accepts}
+use Rattle.laws.proofs.Checked.{Admitted, admitted-of}
+use Rattle.laws.proofs.Wanted.{wanted-length}
+use Rattle.laws.proofs.Generated.{few-rows, drawn-accepts}
 use Rattle.constants.specs.Held.{kept}
 use Rattle.constants.proofs.Insertion.{held-list, held-count}
 use Rattle.generator.specs.Rule.{AllServable}

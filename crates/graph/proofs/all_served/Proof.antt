@@ -16,7 +16,7 @@ use Rattle.meaning.specs.Basics.{has}
 use Rattle.meaning.specs.Constants.{oddOf, apart}
 use Rattle.meaning.specs.Graph.{rows, values, served?}
 use Rattle.meaning.specs.Refusals.{needEach, allServed}
-use Rattle.meaning.proofs.Walks.{each-miss, each-hit, each-end}
+use Rattle.laws.proofs.Walks.{each-miss, each-hit, each-end}
 use Rattle.graph.proofs.all_served.Statement.{statement}
 use Rattle.graph.proofs.all_served.Tie as tie
 

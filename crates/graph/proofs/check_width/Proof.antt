@@ -9,8 +9,8 @@ use lib.Dec.{leb}
 use Rattle.meaning.specs.declared.Refusal.the-variants as no
 use Rattle.meaning.specs.Basics.{all}
 use Rattle.meaning.specs.Refusals.{checkOrder, inputWidth, checked, sized, firstOf}
-use Rattle.meaning.proofs.Tests.{pair-all}
-use Rattle.meaning.proofs.Stages.{stops, passes, stops-at, passes-on}
+use Rattle.laws.proofs.Tests.{pair-all}
+use Rattle.laws.proofs.Stages.{stops, passes, stops-at, passes-on}
 use Rattle.graph.proofs.check_width.Statement.{statement}
 use Rattle.graph.proofs.check_width.Tie as tie
 

@@ -8,8 +8,8 @@ use borrow.Author.Needs.{needs}
 use lib.ListN.{length, drop, getD}
 use Rattle.meaning.specs.Basics.{has}
 use Rattle.meaning.specs.Graph.{rowLength, rows, values}
-use Rattle.meaning.proofs.Graphs.{length-rows, length-values, value-is}
-use Rattle.meaning.proofs.Walks.{has-miss, has-hit, has-end}
+use Rattle.laws.proofs.Graphs.{length-rows, length-values, value-is}
+use Rattle.laws.proofs.Walks.{has-miss, has-hit, has-end}
 use Rattle.graph.proofs.has_value.Statement.{statement}
 use Rattle.graph.proofs.has_value.Tie as tie
 

@@ -3,7 +3,7 @@ use mathlib.Core.Path.{_≡_}
 use mathlib.Core.Bool.{Bool, true, false, _&&_}
 use borrow.Author.Needs.{needs}
 use borrow.Author.Tests.{le-leb, lt-leb}
-use Rattle.meaning.proofs.Tests.{and-true}
+use Rattle.laws.proofs.Tests.{and-true}
 use Rattle.graph.proofs.in_slice.Statement.{statement}
 use Rattle.graph.proofs.in_slice.Tie as tie
 

@@ -11,7 +11,7 @@ use Rattle.meaning.specs.declared.Refusal.the-variants as no
 use Rattle.meaning.specs.Limits.{limit}
 use Rattle.meaning.specs.Graph.{rowLength, rowAt, rows, ready, fits?}
 use Rattle.meaning.specs.Refusals.{rowsFrom, validRows}
-use Rattle.meaning.proofs.Walks.{rows-miss, rows-hit, rows-end, fits-is}
+use Rattle.laws.proofs.Walks.{rows-miss, rows-hit, rows-end, fits-is}
 use Rattle.graph.proofs.valid_rows.Statement.{statement}
 use Rattle.graph.proofs.valid_rows.Tie as tie
 

@@ -8,7 +8,7 @@ use borrow.Author.Needs.{needs}
 use borrow.Author.Tests.{not-true, not-false}
 use Rattle.meaning.specs.Text.{stands}
 use Rattle.meaning.specs.Job.{numberLine}
-use Rattle.meaning.proofs.Texts.{stands-within}
+use Rattle.laws.proofs.Texts.{stands-within}
 use Rattle.job.specs.Held.{readOf}
 use Rattle.job.proofs.number_line.Statement.{statement}
 use Rattle.job.proofs.number_line.Tie as tie

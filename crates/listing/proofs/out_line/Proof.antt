@@ -9,8 +9,8 @@ use Rattle.meaning.specs.Basics.{indexFrom}
 use Rattle.meaning.specs.Constants.{apart}
 use Rattle.meaning.specs.Graph.{rows, ready, outputIndex}
 use Rattle.meaning.specs.Widths.{outputWidth}
-use Rattle.meaning.proofs.Graphs.{length-ready}
-use Rattle.meaning.proofs.Products.{index-inside}
+use Rattle.laws.proofs.Graphs.{length-ready}
+use Rattle.laws.proofs.Products.{index-inside}
 use Rattle.text.proofs.Writing.{kept}
 use Rattle.listing.proofs.out_line.Statement.{statement}
 use Rattle.listing.proofs.out_line.Tie as tie

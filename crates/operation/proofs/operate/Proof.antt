@@ -9,7 +9,7 @@ use lib.Dec.{leb, leb→le}
 use Rattle.meaning.specs.declared.Operated.the-variants.{Invalid}
 use Rattle.meaning.specs.Limits.{limit}
 use Rattle.meaning.specs.Operation.{operated, operatedUnder}
-use Rattle.meaning.proofs.Tests.{both-of, T-of}
+use Rattle.laws.proofs.Tests.{both-of, T-of}
 use Rattle.operation.proofs.operate.Statement.{statement}
 use Rattle.operation.proofs.operate.Tie as tie
 

@@ -7,7 +7,7 @@ use borrow.Author.Needs.{needs}
 use lib.Count.{trailingZeros}
 use lib.ListN.{length}
 use Rattle.meaning.specs.Basics.{zeros}
-use Rattle.meaning.proofs.Zeros.{zeros-low, machine-is}
+use Rattle.laws.proofs.Zeros.{zeros-low, machine-is}
 use Rattle.reach.proofs.Marks.{mark-none, mark-past, mark-one}
 use Rattle.reach.proofs.mark.Statement.{statement}
 use Rattle.reach.proofs.mark.Tie as tie

@@ -10,8 +10,8 @@ use Rattle.meaning.specs.Basics.{upFrom, over}
 use Rattle.meaning.specs.Graph.{rows}
 use Rattle.meaning.specs.Listing.{rowOrder}
 use Rattle.meaning.specs.Refusals.{mostRows}
-use Rattle.meaning.proofs.Checked.{sized-of}
-use Rattle.meaning.proofs.Graphs.{length-rows}
+use Rattle.laws.proofs.Checked.{sized-of}
+use Rattle.laws.proofs.Graphs.{length-rows}
 use Rattle.reply.proofs.Laws.{ranked-written}
 use Rattle.reply.proofs.arrange.Statement.{statement}
 use Rattle.reply.proofs.arrange.Tie as tie

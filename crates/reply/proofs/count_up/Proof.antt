@@ -5,7 +5,7 @@ use native.Mathlib.Omega.{arith}
 use borrow.Author.Needs.{needs}
 use lib.ListN.{length, length-set}
 use Rattle.meaning.specs.Basics.{upFrom, over}
-use Rattle.meaning.proofs.Stages.{over-none}
+use Rattle.laws.proofs.Stages.{over-none}
 use Rattle.reply.proofs.Laws.{counted}
 use Rattle.reply.proofs.count_up.Statement.{statement}
 use Rattle.reply.proofs.count_up.Tie as tie

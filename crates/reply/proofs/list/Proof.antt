@@ -11,8 +11,8 @@ use Rattle.meaning.specs.Graph.{rows}
 use Rattle.meaning.specs.Job.{natural}
 use Rattle.meaning.specs.Listing.{rowOrder}
 use Rattle.meaning.specs.Refusals.{sized}
-use Rattle.meaning.proofs.Checked.{Good, sized-of}
-use Rattle.meaning.proofs.Graphs.{length-rows}
+use Rattle.laws.proofs.Checked.{Good, sized-of}
+use Rattle.laws.proofs.Graphs.{length-rows}
 use Rattle.listing.specs.Parts.{Order}
 use Rattle.text.proofs.Writing.{same-text}
 use Rattle.reply.proofs.Orders.{drawn-sized, order-of, order-front, listing-is}

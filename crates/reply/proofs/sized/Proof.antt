@@ -8,7 +8,7 @@ use lib.Dec.{leb, leb→le}
 use mir.Syntax.{w32}
 use mir.ValLaws.{toZ-ofZ}
 use Rattle.meaning.specs.Job.{Asked, natural}
-use Rattle.meaning.proofs.Tests.{T-of, all-of, pair-all}
+use Rattle.laws.proofs.Tests.{T-of, all-of, pair-all}
 use Rattle.text.proofs.Writing.{same-text, within}
 use Rattle.reply.proofs.Orders.{all-tests, reply-width, reply-listing}
 use Rattle.reply.proofs.sized.Statement.{statement}

@@ -6,8 +6,8 @@ use borrow.Author.Needs.{needs}
 use lib.ListN.{length, drop}
 use Rattle.meaning.specs.Basics.{indexFrom}
 use Rattle.meaning.specs.Graph.{rows, ready}
-use Rattle.meaning.proofs.Graphs.{length-ready}
-use Rattle.meaning.proofs.Products.{index-miss, index-hit, index-end}
+use Rattle.laws.proofs.Graphs.{length-ready}
+use Rattle.laws.proofs.Products.{index-miss, index-hit, index-end}
 use Rattle.rows.proofs.lowest.Statement.{statement}
 use Rattle.rows.proofs.lowest.Tie as tie
 

@@ -6,7 +6,7 @@ use native.Mathlib.Omega.{arith}
 use borrow.Author.Needs.{needs}
 use lib.ListN.{getD}
 use Rattle.meaning.specs.Graph.{rowLength, rows, ready}
-use Rattle.meaning.proofs.Graphs.{value-is}
+use Rattle.laws.proofs.Graphs.{value-is}
 use Rattle.rows.proofs.value_at.Statement.{statement}
 use Rattle.rows.proofs.value_at.Tie as tie
 

@@ -14,10 +14,10 @@ use Rattle.meaning.specs.Basics.{after}
 use Rattle.meaning.specs.Graph.{rowLength, rows}
 use Rattle.meaning.specs.Widths.{rowWidth, outputWidth, widths}
 use Rattle.meaning.specs.Refusals.{sizedOrder, buffer, sized, measured, widthsWritten, firstOf}
-use Rattle.meaning.proofs.Graphs.{length-rows}
-use Rattle.meaning.proofs.Stages.{stops, passes, stops-at, passes-on, refused-done, accepted-done}
-use Rattle.meaning.proofs.Checked.{GoodWidth, sized-of}
-use Rattle.meaning.proofs.Over.{over-part}
+use Rattle.laws.proofs.Graphs.{length-rows}
+use Rattle.laws.proofs.Stages.{stops, passes, stops-at, passes-on, refused-done, accepted-done}
+use Rattle.laws.proofs.Checked.{GoodWidth, sized-of}
+use Rattle.laws.proofs.Over.{over-part}
 use Rattle.widths.proofs.measure.Statement.{statement}
 use Rattle.widths.proofs.measure.Tie as tie
 

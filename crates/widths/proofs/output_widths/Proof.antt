@@ -11,7 +11,7 @@ use mir.Syntax.{w32}
 use mir.ValLaws.{toZ-ofZ}
 use Rattle.meaning.specs.Basics.{after}
 use Rattle.meaning.specs.Widths.{outputWidth}
-use Rattle.meaning.proofs.Over.{after-none, after-more}
+use Rattle.laws.proofs.Over.{after-none, after-more}
 use Rattle.widths.proofs.output_widths.Statement.{statement}
 use Rattle.widths.proofs.output_widths.Tie as tie
 

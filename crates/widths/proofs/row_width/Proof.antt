@@ -4,7 +4,7 @@ use Prim.Native.Nat.{_+_, _*_, _≤_}
 use native.Mathlib.Omega.{arith}
 use lib.ListN.{getD}
 use Rattle.meaning.specs.Widths.{extraBits}
-use Rattle.meaning.proofs.Widths.{extra-small}
+use Rattle.laws.proofs.Widths.{extra-small}
 use borrow.Author.Needs.{needs}
 use Rattle.widths.proofs.row_width.Statement.{statement}
 use Rattle.widths.proofs.row_width.Tie as tie

@@ -8,7 +8,7 @@ use lib.ListN.{length, set, length-set}
 use Rattle.meaning.specs.Basics.{over}
 use Rattle.meaning.specs.Graph.{rowLength, rowAt, rows}
 use Rattle.meaning.specs.Widths.{rowWidth}
-use Rattle.meaning.proofs.Over.{over-rows}
+use Rattle.laws.proofs.Over.{over-rows}
 use Rattle.widths.proofs.row_widths.Statement.{statement}
 use Rattle.widths.proofs.row_widths.Tie as tie
 

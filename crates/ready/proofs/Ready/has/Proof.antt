@@ -6,7 +6,7 @@ use native.Mathlib.Omega.{arith}
 use borrow.Author.Needs.{needs}
 use lib.ListN.{length, drop}
 use Rattle.meaning.specs.Basics.{has}
-use Rattle.meaning.proofs.Walks.{has-miss, has-hit, has-end}
+use Rattle.laws.proofs.Walks.{has-miss, has-hit, has-end}
 use Rattle.ready.specs.Listed.{room, listed}
 use Rattle.ready.proofs.Laws.{list-length, list-at}
 use Rattle.ready.proofs.Ready.has.Statement.{statement}

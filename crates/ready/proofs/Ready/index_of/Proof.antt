@@ -6,7 +6,7 @@ use native.Mathlib.Omega.{arith}
 use borrow.Author.Needs.{needs}
 use lib.ListN.{length, drop}
 use Rattle.meaning.specs.Basics.{indexFrom}
-use Rattle.meaning.proofs.Products.{index-miss, index-hit, index-end}
+use Rattle.laws.proofs.Products.{index-miss, index-hit, index-end}
 use Rattle.ready.specs.Listed.{room, listed}
 use Rattle.ready.proofs.Laws.{list-length, list-at}
 use Rattle.ready.proofs.Ready.index_of.Statement.{statement}

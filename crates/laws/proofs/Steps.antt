@@ -1,0 +1,91 @@
+-- The steps of a turn as code meets them: A by the first constant that one operation reaches, C by its prefixes one after the other. Assumes nothing.
+use mathlib.Core.Path.{_≡_, refl, sym, ap, _∙_}
+use mathlib.Core.Bool.{Bool, true, false, cond}
+use mathlib.Core.List.{List, [], _∷_, _++_}
+use mathlib.Core.Option.{Option, some, none}
+use Prim.Native.Nat.{ℕ, zero, suc, _+_, _≤_, _<_}
+use native.Mathlib.Numerals.{add-one}
+use native.Mathlib.Omega.{arith}
+use lib.ListN.{length, getD, drop, drop-of-length-le}
+use lib.Seq.{drop-cons}
+use Rattle.meaning.specs.declared.Prefix.{Prefix}
+use Rattle.meaning.specs.declared.Row.{Row}
+use Rattle.meaning.specs.Basics.{has, indexFrom, firstSome, andThen}
+use Rattle.meaning.specs.Distance.{reach?}
+use Rattle.meaning.specs.Generator.{rowFor, remaining, ruleA, ruleC}
+use Rattle.laws.proofs.Choices.{got, got-row}
+
+-- ---- step A
+
+abbrev pub near : ℕ → List ℕ → ℕ → Option ℕ
+near L vals c = cond (reach? L vals c) (some c) none
+
+abbrev rowOf : ℕ → List ℕ → ℕ → Option (List Row)
+rowOf L vals c = andThen (rowFor L vals c) (λ x. some (x ∷ []))
+
+abbrev or {ℓ} : {A : Type ℓ} → Option A → Option A → Option A
+or none r = r
+or (some a) r = some a
+
+first-step {ℓ κ} : {A : Type ℓ} {B : Type κ} (f : A → Option B) (x : A) (xs : List A) → firstSome f (x ∷ xs) ≡ or (f x) (firstSome f xs)
+unfolding firstSome
+first-step {B = B} f x xs = go (f x)
+  where
+    go : (o : Option B) → elim o as (λ _. Option B) [ none ↦ firstSome f xs | some b ↦ some b ] ≡ or o (firstSome f xs)
+    go none = refl
+    go (some b) = refl
+
+-- the first that is reached, and its row
+pub rule-a-is : (L : ℕ) (vals cs : List ℕ) → ruleA L vals cs ≡ andThen (firstSome (near L vals) cs) (rowOf L vals)
+unfolding ruleA
+rule-a-is L vals [] = unfold firstSome andThen in refl
+rule-a-is L vals (c ∷ cs) =
+    first-step (rowOf L vals) c cs
+    ∙ go (rowFor L vals c) (reach? L vals c) refl (got-row L vals c) (rule-a-is L vals cs)
+    ∙ ap (λ o. andThen o (rowOf L vals)) (sym (first-step (near L vals) c cs))
+  where
+    rest : Option ℕ
+    rest = firstSome (near L vals) cs
+
+    go : (o : Option Row) (b : Bool) → rowFor L vals c ≡ o → got (rowFor L vals c) ≡ b → firstSome (rowOf L vals) cs ≡ andThen rest (rowOf L vals)
+        → or (rowOf L vals c) (firstSome (rowOf L vals) cs) ≡ andThen (or (cond b (some c) none) rest) (rowOf L vals)
+    go none true e f ih = absurd (let q : false ≡ true = sym (ap got e) ∙ f in let z : _≡_ {A = ℕ} 0 1 = cc in omega arith)
+    go none false e f ih = ap (λ o. or (andThen o (λ x. some (x ∷ []))) (firstSome (rowOf L vals) cs)) e ∙ (unfold andThen in ih)
+    go (some x) true e f ih =
+        ap (λ o. or (andThen o (λ x. some (x ∷ []))) (firstSome (rowOf L vals) cs)) e ∙ sym (unfold andThen in (ap (λ o. andThen o (λ x. some (x ∷ []))) e))
+    go (some x) false e f ih = absurd (let q : true ≡ false = sym (ap got e) ∙ f in let z : _≡_ {A = ℕ} 0 1 = cc in omega arith)
+
+-- ---- the constants that remain, one after the other
+
+pub remaining-ready : (vals cs : List ℕ) (i : ℕ) → i < length cs → has vals (getD cs i 0) ≡ true → remaining vals (drop i cs) ≡ remaining vals (drop (i + 1) cs)
+unfolding remaining
+remaining-ready vals cs i h e = rw (drop-cons cs i 0 h, e, add-one i)
+
+pub remaining-left : (vals cs : List ℕ) (i : ℕ) → i < length cs → has vals (getD cs i 0) ≡ false
+    → remaining vals (drop i cs) ≡ getD cs i 0 ∷ remaining vals (drop (i + 1) cs)
+unfolding remaining
+remaining-left vals cs i h e = rw (drop-cons cs i 0 h, e, add-one i)
+
+pub remaining-end : (vals cs : List ℕ) (i : ℕ) → length cs ≤ i → remaining vals (drop i cs) ≡ []
+unfolding remaining
+remaining-end vals cs i h = rw (drop-of-length-le cs h)
+
+-- ---- step C, prefix by prefix
+
+-- the row of a prefix
+abbrev pub prefixRow : List ℕ → Prefix → Row
+prefixRow vals p = record { u = indexFrom 0 vals (p .before); v = 0; l1 = p .gap; l2 = 0; s = p .s; r = 0; value = p .value }
+
+pub rule-c-ready : (vals : List ℕ) (ps : List Prefix) (i : ℕ) (d : Prefix) → i < length ps → has vals (getD ps i d .value) ≡ true
+    → ruleC vals (drop i ps) ≡ ruleC vals (drop (i + 1) ps)
+unfolding ruleC
+rule-c-ready vals ps i d h e = rw (drop-cons ps i d h, e, add-one i)
+
+pub rule-c-row : (vals : List ℕ) (ps : List Prefix) (i : ℕ) (d : Prefix) → i < length ps → has vals (getD ps i d .value) ≡ false
+    → ruleC vals (drop i ps) ≡ prefixRow vals (getD ps i d) ∷ ruleC (vals ++ (getD ps i d .value ∷ [])) (drop (i + 1) ps)
+unfolding ruleC
+rule-c-row vals ps i d h e = rw (drop-cons ps i d h, e, add-one i)
+
+pub rule-c-end : (vals : List ℕ) (ps : List Prefix) (i : ℕ) → length ps ≤ i → ruleC vals (drop i ps) ≡ []
+unfolding ruleC
+rule-c-end vals ps i h = rw (drop-of-length-le ps h)

@@ -1,0 +1,1 @@
+// The laws of the definitions in crates/meaning: a module for each matter, in proofs/.
