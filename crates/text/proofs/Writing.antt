@@ -39,6 +39,10 @@ same-text {m} {a} {b} {d} {e} {t} {u} k p =
 pub within : {m n a b : ℕ} {d e t : List ℕ} → Wrote m d a t e b → m ≤ n → Wrote n d a t e b
 within p h = let g = p .size in record { stored = p .stored; place = p .place; size = omega arith }
 
+-- any two allowed results are equal
+pub one-wrote : {m a b b′ : ℕ} {d e e′ t : List ℕ} → Wrote m d a t e b → Wrote m d a t e′ b′ → (e ≡ e′) × (b ≡ b′)
+one-wrote p q = (p .stored ∙ sym (q .stored), p .place ∙ sym (q .place))
+
 -- a text leaves the buffer's length, and the room that it did not use
 pub kept : {m a b : ℕ} {d e t : List ℕ} → Wrote m d a t e b → length e ≡ length d
 kept {m} {a} {b} {d} {e} {t} p = ap length (p .stored) ∙ length-sets d a t
