@@ -19,8 +19,8 @@ use Rattle.meaning.specs.Widths.{rowWidth}
 use Rattle.laws.proofs.Choices.{getD-in}
 use Rattle.laws.proofs.Graphs.{row-of}
 use Rattle.laws.proofs.Wanted.{wanted-in}
-use Rattle.text.specs.Wrote.{Wrote}
-use Rattle.text.proofs.Writing.{_⨾_, same-text}
+use Rattle.writing.specs.Wrote.{Wrote}
+use Rattle.writing.proofs.Writing.{_⨾_, same-text}
 use Rattle.listing.specs.Parts.{frontFields, backFields, rowFront, rowBack}
 
 -- ---- a line's end

@@ -2,9 +2,9 @@
 use meaning::ROW_LENGTH;
 use meaning::Refusal;
 use meaning::Row;
-use text::field;
-use text::put;
-use text::signed_field;
+use writing::field;
+use writing::put;
+use writing::signed_field;
 ghost use mathlib.Core.Path.{_≡_};
 ghost use mathlib.Core.List.{[], _∷_, _++_};
 ghost use Prim.Native.Nat.{_+_, _*_, _≤_, _<_};
@@ -15,7 +15,7 @@ ghost use Rattle.meaning.specs.Graph.{rows};
 ghost use Rattle.meaning.specs.Listing.{pieces, reportText, headText, outLine, refusedLine, rowText, rowTexts, outText, outTexts, textRoom};
 ghost use Rattle.meaning.specs.Refusals.{mostRows};
 ghost use Rattle.meaning.specs.Text.{bytes, unsignedText, textOf};
-ghost use Rattle.text.specs.Wrote.{Wrote};
+ghost use Rattle.writing.specs.Wrote.{Wrote};
 ghost use Rattle.listing.specs.Parts.{Within, Order, rowFront, rowBack};
 
 // A line of one signed number.

@@ -12,7 +12,7 @@ ghost use Rattle.meaning.specs.Graph.{rows};
 ghost use Rattle.meaning.specs.Job.{natural as Job·natural};
 ghost use Rattle.meaning.specs.Listing.{rowOrder, replyTo, listing as Listing·listing, printedTold, textWritten, textRoom};
 ghost use Rattle.meaning.specs.Refusals.{mostRows, Done, sized as Refusals·sized};
-ghost use Rattle.text.specs.Wrote.{Wrote};
+ghost use Rattle.writing.specs.Wrote.{Wrote};
 ghost use Rattle.reply.specs.Drawing.{Drawing};
 
 // A negative number counts as 0, which is out of range too.

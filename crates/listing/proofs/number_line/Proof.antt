@@ -1,6 +1,6 @@
 -- `number_line` meets its contract: a name and a number, and the line feed. Assumes nothing.
 use borrow.Author.Needs.{needs}
-use Rattle.text.proofs.Writing.{_⨾_, kept}
+use Rattle.writing.proofs.Writing.{_⨾_, kept}
 use Rattle.listing.proofs.number_line.Statement.{statement}
 use Rattle.listing.proofs.number_line.Tie as tie
 

@@ -5,7 +5,7 @@ use mir.Syntax.{w32}
 use mir.ValLaws.{toZ-ofZ}
 use Rattle.meaning.specs.Listing.{_is_, fieldText, outLine}
 use Rattle.meaning.specs.Text.{bytes}
-use Rattle.text.proofs.Writing.{_⨾_, kept}
+use Rattle.writing.proofs.Writing.{_⨾_, kept}
 use Rattle.listing.proofs.Laws.{ended}
 use Rattle.listing.proofs.out_fields.Statement.{statement}
 use Rattle.listing.proofs.out_fields.Tie as tie

@@ -11,7 +11,7 @@ use Rattle.meaning.specs.Graph.{rows, ready, outputIndex}
 use Rattle.meaning.specs.Widths.{outputWidth}
 use Rattle.laws.proofs.Graphs.{length-ready}
 use Rattle.laws.proofs.Products.{index-inside}
-use Rattle.text.proofs.Writing.{kept}
+use Rattle.writing.proofs.Writing.{kept}
 use Rattle.listing.proofs.out_line.Statement.{statement}
 use Rattle.listing.proofs.out_line.Tie as tie
 

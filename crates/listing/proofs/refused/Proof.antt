@@ -3,7 +3,7 @@ use borrow.Author.Needs.{needs}
 use lib.IntN.{pos}
 use Rattle.meaning.specs.Listing.{_is_, fieldText, refusedLine}
 use Rattle.meaning.specs.Text.{bytes}
-use Rattle.text.proofs.Writing.{kept}
+use Rattle.writing.proofs.Writing.{kept}
 use Rattle.listing.proofs.Laws.{ended}
 use Rattle.listing.proofs.refused.Statement.{statement}
 use Rattle.listing.proofs.refused.Tie as tie

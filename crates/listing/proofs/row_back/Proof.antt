@@ -3,7 +3,7 @@ use borrow.Author.Needs.{needs}
 use lib.IntN.{pos}
 use Rattle.meaning.specs.Listing.{_is_, fieldText}
 use Rattle.meaning.specs.Text.{bytes}
-use Rattle.text.proofs.Writing.{_⨾_, kept}
+use Rattle.writing.proofs.Writing.{_⨾_, kept}
 use Rattle.listing.specs.Parts.{rowBack}
 use Rattle.listing.proofs.Laws.{ended}
 use Rattle.listing.proofs.row_back.Statement.{statement}

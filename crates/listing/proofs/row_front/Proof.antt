@@ -1,6 +1,6 @@
 -- `row_front` meets its contract: five fields, one after the other. Assumes nothing.
 use borrow.Author.Needs.{needs}
-use Rattle.text.proofs.Writing.{_⨾_, kept}
+use Rattle.writing.proofs.Writing.{_⨾_, kept}
 use Rattle.listing.specs.Parts.{rowFront}
 use Rattle.listing.proofs.row_front.Statement.{statement}
 use Rattle.listing.proofs.row_front.Tie as tie

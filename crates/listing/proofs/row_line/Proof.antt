@@ -1,6 +1,6 @@
 -- `row_line` meets its contract: both halves of the line of that row. Assumes nothing.
 use borrow.Author.Needs.{needs}
-use Rattle.text.proofs.Writing.{_⨾_, same-text, kept}
+use Rattle.writing.proofs.Writing.{_⨾_, same-text, kept}
 use Rattle.listing.proofs.Laws.{row-text}
 use Rattle.listing.proofs.row_line.Statement.{statement}
 use Rattle.listing.proofs.row_line.Tie as tie

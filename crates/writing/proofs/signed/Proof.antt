@@ -9,9 +9,9 @@ use mir.Syntax.{w32}
 use mir.ValLaws.{toZ-ofZ}
 use borrow.Author.Needs.{needs}
 use Rattle.meaning.specs.Text.{unsignedText, textOf}
-use Rattle.text.proofs.Writing.{_⨾_, same-text, within, minus, below-text, other-text}
-use Rattle.text.proofs.signed.Statement.{statement}
-use Rattle.text.proofs.signed.Tie as tie
+use Rattle.writing.proofs.Writing.{_⨾_, same-text, within, minus, below-text, other-text}
+use Rattle.writing.proofs.signed.Statement.{statement}
+use Rattle.writing.proofs.signed.Tie as tie
 
 slice-write-out : tie.Need-slice-write-out
 slice-write-out c = search needs

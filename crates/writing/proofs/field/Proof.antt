@@ -1,9 +1,9 @@
 -- `field` meets its contract: a name and a number, one after the other. Assumes nothing.
 use native.Mathlib.Omega.{arith}
-use Rattle.text.proofs.Writing.{_⨾_, within}
+use Rattle.writing.proofs.Writing.{_⨾_, within}
 use borrow.Author.Needs.{needs}
-use Rattle.text.proofs.field.Statement.{statement}
-use Rattle.text.proofs.field.Tie as tie
+use Rattle.writing.proofs.field.Statement.{statement}
+use Rattle.writing.proofs.field.Tie as tie
 
 put-requires : tie.Need-put-requires
 put-requires c κs = search needs

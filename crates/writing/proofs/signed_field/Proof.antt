@@ -2,10 +2,10 @@
 use native.Mathlib.Omega.{arith}
 use mir.Syntax.{w32}
 use mir.ValLaws.{toZ-ofZ}
-use Rattle.text.proofs.Writing.{_⨾_, within}
+use Rattle.writing.proofs.Writing.{_⨾_, within}
 use borrow.Author.Needs.{needs}
-use Rattle.text.proofs.signed_field.Statement.{statement}
-use Rattle.text.proofs.signed_field.Tie as tie
+use Rattle.writing.proofs.signed_field.Statement.{statement}
+use Rattle.writing.proofs.signed_field.Tie as tie
 
 put-requires : tie.Need-put-requires
 put-requires c κs = search needs

@@ -4,10 +4,10 @@ use native.Mathlib.Omega.{arith}
 use lib.ListN.{length, take}
 use borrow.Author.Needs.{needs}
 use Rattle.meaning.specs.Text.{unsignedText}
-use Rattle.text.proofs.Io.{unsigned-io}
-use Rattle.text.proofs.Writing.{same-text, within, number-size}
-use Rattle.text.proofs.natural.Statement.{statement}
-use Rattle.text.proofs.natural.Tie as tie
+use Rattle.writing.proofs.Io.{unsigned-io}
+use Rattle.writing.proofs.Writing.{same-text, within, number-size}
+use Rattle.writing.proofs.natural.Statement.{statement}
+use Rattle.writing.proofs.natural.Tie as tie
 
 written : (c : tie.After-decimal) → take (c .decimal .result) (c .decimal .last .1 .0) ≡ unsignedText (c .before .before .before .args .n)
 written c =

@@ -13,7 +13,7 @@ use lib.Seq.{sets, sets-eq, length-sets, take-append-seam, paste, paste-suc, tak
 use lib.Signed.{ltZ}
 use borrow.Author.Tests.{ltb-true, ltb-false}
 use Rattle.meaning.specs.Text.{decimalIn, unsignedText, textOf}
-use Rattle.text.specs.Wrote.{Wrote}
+use Rattle.writing.specs.Wrote.{Wrote}
 
 -- two runs of stores are one, with no condition on the buffer's length
 sets-append : (t u d : List ℕ) (a b : ℕ) → b ≡ a + length t → sets (sets d a t) b u ≡ sets d a (t ++ u)
