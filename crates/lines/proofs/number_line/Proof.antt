@@ -1,8 +1,8 @@
 -- `number_line` meets its contract: a name and a number, and the line feed. Assumes nothing.
 use borrow.Author.Needs.{needs}
 use Rattle.writing.proofs.Writing.{_⨾_, kept}
-use Rattle.listing.proofs.number_line.Statement.{statement}
-use Rattle.listing.proofs.number_line.Tie as tie
+use Rattle.lines.proofs.number_line.Statement.{statement}
+use Rattle.lines.proofs.number_line.Tie as tie
 
 field-requires : tie.Need-field-requires
 field-requires c κs = search needs

@@ -4,9 +4,9 @@ use lib.IntN.{pos}
 use Rattle.meaning.specs.Listing.{_is_, fieldText, refusedLine}
 use Rattle.meaning.specs.Text.{bytes}
 use Rattle.writing.proofs.Writing.{kept}
-use Rattle.listing.proofs.Laws.{ended}
-use Rattle.listing.proofs.refused.Statement.{statement}
-use Rattle.listing.proofs.refused.Tie as tie
+use Rattle.lines.proofs.Laws.{ended}
+use Rattle.lines.proofs.refused.Statement.{statement}
+use Rattle.lines.proofs.refused.Tie as tie
 
 number-requires : tie.Need-number-requires
 number-requires c κs = search needs

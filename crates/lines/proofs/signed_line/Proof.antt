@@ -3,8 +3,8 @@ use borrow.Author.Needs.{needs}
 use mir.Syntax.{w32}
 use mir.ValLaws.{toZ-ofZ}
 use Rattle.writing.proofs.Writing.{_⨾_, kept}
-use Rattle.listing.proofs.signed_line.Statement.{statement}
-use Rattle.listing.proofs.signed_line.Tie as tie
+use Rattle.lines.proofs.signed_line.Statement.{statement}
+use Rattle.lines.proofs.signed_line.Tie as tie
 
 signed-field-requires : tie.Need-signed-field-requires
 signed-field-requires c κs = search needs

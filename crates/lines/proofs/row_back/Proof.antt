@@ -4,10 +4,10 @@ use lib.IntN.{pos}
 use Rattle.meaning.specs.Listing.{_is_, fieldText}
 use Rattle.meaning.specs.Text.{bytes}
 use Rattle.writing.proofs.Writing.{_⨾_, kept}
-use Rattle.listing.specs.Parts.{rowBack}
-use Rattle.listing.proofs.Laws.{ended}
-use Rattle.listing.proofs.row_back.Statement.{statement}
-use Rattle.listing.proofs.row_back.Tie as tie
+use Rattle.lines.specs.Parts.{rowBack}
+use Rattle.lines.proofs.Laws.{ended}
+use Rattle.lines.proofs.row_back.Statement.{statement}
+use Rattle.lines.proofs.row_back.Tie as tie
 
 slice-aggregate-field : tie.Need-slice-aggregate-field
 slice-aggregate-field c = search needs

@@ -6,9 +6,9 @@ use mir.ValLaws.{toZ-ofZ}
 use Rattle.meaning.specs.Listing.{_is_, fieldText, outLine}
 use Rattle.meaning.specs.Text.{bytes}
 use Rattle.writing.proofs.Writing.{_⨾_, kept}
-use Rattle.listing.proofs.Laws.{ended}
-use Rattle.listing.proofs.out_fields.Statement.{statement}
-use Rattle.listing.proofs.out_fields.Tie as tie
+use Rattle.lines.proofs.Laws.{ended}
+use Rattle.lines.proofs.out_fields.Statement.{statement}
+use Rattle.lines.proofs.out_fields.Tie as tie
 
 slice-aggregate-field : tie.Need-slice-aggregate-field
 slice-aggregate-field c = search needs
