@@ -15,7 +15,7 @@ use Rattle.meaning.specs.Job.{Asked, Job, asks, malformed, jobOf}
 use Rattle.meaning.specs.Listing.{answerOf, replyTo, refusedLine, jobText, printedTold, textWritten, textRoom}
 use Rattle.meaning.specs.Refusals.{Done}
 use Rattle.laws.proofs.Stages.{over-none}
-use Rattle.text.specs.Wrote.{Wrote}
+use Rattle.writing.specs.Wrote.{Wrote}
 
 module _ (s : List ℕ) where
   pub print-short : (old : List ℕ) → length old < textRoom → Done (printedTold s (length old)) (textWritten s (length old)) (out.Refused no.Buffer) old old

@@ -12,7 +12,7 @@ ghost use Rattle.meaning.specs.Graph.{rows};
 ghost use Rattle.meaning.specs.Job.{natural as Job·natural};
 ghost use Rattle.meaning.specs.Listing.{rowOrder, replyTo, listing as Listing·listing, printedTold, textWritten, textRoom};
 ghost use Rattle.meaning.specs.Refusals.{mostRows, Done, sized as Refusals·sized};
-ghost use Rattle.text.specs.Wrote.{Wrote};
+ghost use Rattle.writing.specs.Wrote.{Wrote};
 ghost use Rattle.reply.specs.Drawing.{Drawing};
 
 // A negative number counts as 0, which is out of range too.
@@ -92,7 +92,7 @@ fn sized(
         (replyTo (record { bits = bits; input = input; byWidth = «by_width»; targets = now (ts .entry) })) (now (out .exit)) r ⌝ }
 {
     if !numbers::within(natural(input) as usize, 2, 32) {
-        return listing::refused(out, Refusal::Width);
+        return lines::refused(out, Refusal::Width);
     }
     list(out, bits, input, by_width, ts, words, n)
 }
@@ -106,7 +106,7 @@ fn draw(out: &mut [u8], bits: i32, input: i32, by_width: bool, ts: &[i32]) -> us
     let mut words = [0u32; 896];
     let drawn = generator::generate(natural(bits), ts, &mut words);
     match drawn {
-        Drawn::Refused(why) => listing::refused(out, why),
+        Drawn::Refused(why) => lines::refused(out, why),
         Drawn::Rows(n) => sized(out, bits, input, by_width, ts, &words, n as usize),
     }
 }
@@ -124,7 +124,7 @@ pub fn answer(s: &[u8], out: &mut [u8]) -> Printed
     let parsed = job::parse(s);
     let asks = parsed.asks;
     match asks {
-        Asks::Malformed(line) => Printed::Bytes(listing::refused(out, Refusal::Job(line))),
+        Asks::Malformed(line) => Printed::Bytes(lines::refused(out, Refusal::Job(line))),
         Asks::Wants {
             bits,
             input,

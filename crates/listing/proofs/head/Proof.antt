@@ -3,7 +3,7 @@ use borrow.Author.Needs.{needs}
 use mir.Syntax.{w32}
 use mir.ValLaws.{toZ-ofZ}
 use Rattle.meaning.specs.Listing.{headText}
-use Rattle.text.proofs.Writing.{_⨾_, kept}
+use Rattle.writing.proofs.Writing.{_⨾_, kept}
 use Rattle.listing.proofs.head.Statement.{statement}
 use Rattle.listing.proofs.head.Tie as tie
 

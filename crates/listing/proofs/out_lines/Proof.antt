@@ -9,8 +9,8 @@ use mir.Syntax.{w32}
 use mir.ValLaws.{toZ-ofZ}
 use Rattle.meaning.specs.Graph.{rows}
 use Rattle.meaning.specs.Listing.{outTexts}
-use Rattle.text.specs.Wrote.{Wrote}
-use Rattle.text.proofs.Writing.{same-text, within, still, nothing, more}
+use Rattle.writing.specs.Wrote.{Wrote}
+use Rattle.writing.proofs.Writing.{same-text, within, still, nothing, more}
 use Rattle.listing.proofs.Laws.{outs-more}
 use Rattle.listing.proofs.out_lines.Statement.{statement}
 use Rattle.listing.proofs.out_lines.Tie as tie

@@ -1,7 +1,7 @@
 -- `report` meets its contract: the line for either order. Assumes nothing.
 use lib.Dec.{lit≤}
 use borrow.Author.Needs.{needs}
-use Rattle.text.proofs.Writing.{within, kept}
+use Rattle.writing.proofs.Writing.{within, kept}
 use Rattle.listing.proofs.report.Statement.{statement}
 use Rattle.listing.proofs.report.Tie as tie
 

@@ -7,8 +7,8 @@ use lib.ListN.{length, take}
 use lib.Seq.{take-all}
 use Rattle.meaning.specs.Graph.{rows}
 use Rattle.meaning.specs.Listing.{rowTexts}
-use Rattle.text.specs.Wrote.{Wrote}
-use Rattle.text.proofs.Writing.{same-text, within, still, nothing, more}
+use Rattle.writing.specs.Wrote.{Wrote}
+use Rattle.writing.proofs.Writing.{same-text, within, still, nothing, more}
 use Rattle.listing.proofs.Laws.{rows-more}
 use Rattle.listing.proofs.row_lines.Statement.{statement}
 use Rattle.listing.proofs.row_lines.Tie as tie

@@ -11,7 +11,7 @@ use Rattle.meaning.specs.declared.Drawn.the-variants as out
 use Rattle.meaning.specs.Job.{Asked, natural}
 use Rattle.meaning.specs.Refusals.{Done, admitted, drawnTold, rowsWritten}
 use Rattle.laws.proofs.Generated.{call-of, call-rows, call-accepted, call-refused}
-use Rattle.text.proofs.Writing.{same-text, within}
+use Rattle.writing.proofs.Writing.{same-text, within}
 use Rattle.reply.specs.Drawing.{Drawing}
 use Rattle.reply.proofs.Orders.{reply-refused}
 use Rattle.reply.proofs.draw.Statement.{statement}

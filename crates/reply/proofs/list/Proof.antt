@@ -14,7 +14,7 @@ use Rattle.meaning.specs.Refusals.{sized}
 use Rattle.laws.proofs.Checked.{Good, sized-of}
 use Rattle.laws.proofs.Graphs.{length-rows}
 use Rattle.listing.specs.Parts.{Order}
-use Rattle.text.proofs.Writing.{same-text}
+use Rattle.writing.proofs.Writing.{same-text}
 use Rattle.reply.proofs.Orders.{drawn-sized, order-of, order-front, listing-is}
 use Rattle.reply.proofs.list.Statement.{statement}
 use Rattle.reply.proofs.list.Tie as tie

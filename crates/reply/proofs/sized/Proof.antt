@@ -9,7 +9,7 @@ use mir.Syntax.{w32}
 use mir.ValLaws.{toZ-ofZ}
 use Rattle.meaning.specs.Job.{Asked, natural}
 use Rattle.laws.proofs.Tests.{T-of, all-of, pair-all}
-use Rattle.text.proofs.Writing.{same-text, within}
+use Rattle.writing.proofs.Writing.{same-text, within}
 use Rattle.reply.proofs.Orders.{all-tests, reply-width, reply-listing}
 use Rattle.reply.proofs.sized.Statement.{statement}
 use Rattle.reply.proofs.sized.Tie as tie
