@@ -1,0 +1,74 @@
+-- `tauwaage_job` meets its contract: the text's bytes, which its buffer holds, and what was written. Assumes nothing.
+use mathlib.Core.Path.{_≡_, sym, ap, ap₂, _∙_}
+use native.Mathlib.Omega.{arith}
+use borrow.Author.Needs.{needs}
+use mir.Syntax.{w64}
+use mir.Val.{SFits}
+use mir.ValLaws.{toZ-ofZ}
+use Rattle.exports.specs.Codes.{coded, printedCode}
+use Rattle.exports.proofs.Laws.{bytes-within}
+use Rattle.exports.proofs.tauwaage_job.Statement.{statement}
+use Rattle.exports.proofs.tauwaage_job.Tie as tie
+
+fit : (c : tie.After-code) → SFits w64 (c .code .result)
+fit c = search needs
+
+fit2 : (c : tie.After-refused) → SFits w64 (c .refused .result)
+fit2 c = search needs
+
+answer-requires : tie.Need-answer-requires
+answer-requires c κs = search needs
+
+enum-known-n : tie.Need-enum-known-n
+enum-known-n c = search needs
+
+code-requires : tie.Need-code-requires
+code-requires c κs =
+    let d = c .before .before .before .before .before in
+    λ e. omega (arith, bytes-within _ _ _ _ _ (d .answer .ensures) (c .before .n .given .1) (c .before .before .before .before .out .given))
+
+enum-known-why : tie.Need-enum-known-why
+enum-known-why c = search needs
+
+refused-requires : tie.Need-refused-requires
+refused-requires c κs = search needs
+
+same-length : tie.Need-same-length
+same-length c = search needs
+
+returns : tie.Need-returns
+unfolding coded printedCode
+returns c =
+    let t = c .before .before in
+    let d = t .before .before .before .before in
+    record {
+      answers = toZ-ofZ w64 _ (fit c) ∙ c .code .ensures ∙ ap printedCode (sym (t .n .given .1) ∙ d .answer .ensures .answers);
+      writes = d .answer .ensures .writes;
+    }
+
+same-length-2 : tie.Need-same-length-2
+same-length-2 c = search needs
+
+returns-2 : tie.Need-returns-2
+unfolding coded printedCode
+returns-2 c =
+    let t = c .before .before in
+    let d = t .before .before .before .before in
+    record {
+      answers = toZ-ofZ w64 _ (fit2 c) ∙ c .refused .ensures ∙ ap printedCode (sym (t .why .given .1) ∙ d .answer .ensures .answers);
+      writes = d .answer .ensures .writes;
+    }
+
+pub tauwaage-job-spec : {M : Type 1} → statement M
+tauwaage-job-spec =
+    tie.close
+    (tie.spec
+    answer-requires
+    enum-known-n
+    code-requires
+    enum-known-why
+    refused-requires
+    same-length
+    returns
+    same-length-2
+    returns-2)
