@@ -1,13 +1,12 @@
 -- `refused` meets its contract: 1000 × number + place is far below 2^63. Assumes nothing.
-use mathlib.Core.Path.{_≡_, ap₂, _∙_}
+use mathlib.Core.Path.{ap₂, _∙_}
 use Prim.Native.Nat.{_+_, _*_, _^_, _<_}
-use native.Mathlib.Omega.{arith}
 use borrow.Author.Needs.{needs}
 use lib.IntN.{pos, negℤ, +ℤ-idl}
 use mir.Syntax.{w64}
 use mir.ValLaws.{toZ-ofZ, toZ-pos}
 use Rattle.exports.specs.Codes.{refusalCode}
-use Rattle.exports.proofs.Laws.{minus-fits}
+use Rattle.exports.proofs.Handed.{minus-fits}
 use Rattle.exports.proofs.refused.Statement.{statement}
 use Rattle.exports.proofs.refused.Tie as tie
 

@@ -1,5 +1,5 @@
 -- `tauwaage_check` meets its contract: the check's answer, and 0 for acceptance. Assumes nothing.
-use mathlib.Core.Path.{_≡_, sym, ap, ap₂, _∙_}
+use mathlib.Core.Path.{ap, _∙_}
 use borrow.Author.Needs.{needs}
 use mir.Syntax.{w64}
 use mir.Val.{SFits}

@@ -1,11 +1,10 @@
 -- `tauwaage_distance` meets its contract: the distance's answer and steps. Assumes nothing.
-use mathlib.Core.Path.{_≡_, sym, ap, ap₂, _∙_}
+use mathlib.Core.Path.{ap, ap₂, _∙_}
 use borrow.Author.Needs.{needs}
 use mir.Syntax.{w64}
 use mir.Val.{SFits}
 use mir.ValLaws.{toZ-ofZ}
 use Rattle.exports.specs.Codes.{coded, farCode}
-use Rattle.meaning.specs.Refusals.{farAnswer, farSteps}
 use Rattle.exports.proofs.tauwaage_distance.Statement.{statement}
 use Rattle.exports.proofs.tauwaage_distance.Tie as tie
 

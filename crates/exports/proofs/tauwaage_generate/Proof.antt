@@ -1,5 +1,5 @@
 -- `tauwaage_generate` meets its contract: the generator's answer and rows, and what it wrote. Assumes nothing.
-use mathlib.Core.Path.{_≡_, sym, ap, ap₂, _∙_}
+use mathlib.Core.Path.{ap, ap₂, _∙_}
 use borrow.Author.Needs.{needs}
 use mir.Syntax.{w64}
 use mir.Val.{SFits}

@@ -1,12 +1,12 @@
 -- `tauwaage_job` meets its contract: the text's bytes, which its buffer holds, and what was written. Assumes nothing.
-use mathlib.Core.Path.{_≡_, sym, ap, ap₂, _∙_}
+use mathlib.Core.Path.{sym, ap, _∙_}
 use native.Mathlib.Omega.{arith}
 use borrow.Author.Needs.{needs}
 use mir.Syntax.{w64}
 use mir.Val.{SFits}
 use mir.ValLaws.{toZ-ofZ}
 use Rattle.exports.specs.Codes.{coded, printedCode}
-use Rattle.exports.proofs.Laws.{bytes-within}
+use Rattle.exports.proofs.Handed.{bytes-within}
 use Rattle.exports.proofs.tauwaage_job.Statement.{statement}
 use Rattle.exports.proofs.tauwaage_job.Tie as tie
 

@@ -1,12 +1,9 @@
 -- `tauwaage_products` meets its contract: the answer with the number of targets, and what was written. Assumes nothing.
-use mathlib.Core.Path.{_≡_, sym, ap, ap₂, _∙_}
 use borrow.Author.Needs.{needs}
-use lib.ListN.{length}
 use mir.Syntax.{w32, w64}
 use mir.Val.{SFits}
 use mir.ValLaws.{toZ-ofZ}
-use Rattle.exports.specs.Codes.{coded}
-use Rattle.exports.proofs.Laws.{coded-done}
+use Rattle.exports.proofs.Handed.{coded-done}
 use Rattle.exports.proofs.tauwaage_products.Statement.{statement}
 use Rattle.exports.proofs.tauwaage_products.Tie as tie
 

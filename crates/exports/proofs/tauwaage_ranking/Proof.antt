@@ -1,12 +1,10 @@
 -- `tauwaage_ranking` meets its contract: the answer with the number of rows, and what was written. Assumes nothing.
-use mathlib.Core.Path.{_≡_, sym, ap, ap₂, _∙_}
+use mathlib.Core.Path.{sym, _∙_}
 use native.Mathlib.Omega.{arith}
 use borrow.Author.Needs.{needs}
 use mir.Syntax.{w64}
 use mir.Val.{SFits}
-use mir.ValLaws.{toZ-ofZ}
-use Rattle.exports.proofs.Laws.{coded-done, ranked-rows}
-use Rattle.exports.specs.Codes.{coded}
+use Rattle.exports.proofs.Handed.{coded-done, ranked-rows}
 use Rattle.exports.proofs.tauwaage_ranking.Statement.{statement}
 use Rattle.exports.proofs.tauwaage_ranking.Tie as tie
 

@@ -1,13 +1,11 @@
 -- `tauwaage_widths` meets its contract: the answer with rows + targets, and what was written. Assumes nothing.
-use mathlib.Core.Path.{_≡_, sym, ap, ap₂, _∙_}
-use Prim.Native.Nat.{_+_, _^_, _<_, _≤_}
+use mathlib.Core.Path.{sym, _∙_}
+use Prim.Native.Nat.{_≤_}
 use native.Mathlib.Omega.{arith}
 use borrow.Author.Needs.{needs}
-use lib.ListN.{length}
 use mir.Syntax.{w64}
 use mir.Val.{SFits}
-use mir.ValLaws.{toZ-ofZ}
-use Rattle.exports.proofs.Laws.{accepted-coded, refused-coded, coded-done, measured-rows}
+use Rattle.exports.proofs.Handed.{accepted-coded, refused-coded, coded-done, measured-rows}
 use Rattle.meaning.specs.Refusals.{mostRows}
 use Rattle.exports.proofs.tauwaage_widths.Statement.{statement}
 use Rattle.exports.proofs.tauwaage_widths.Tie as tie
