@@ -2,15 +2,15 @@
 use mathlib.Core.Path.{_≡_, sym, ap, _∙_}
 use mathlib.Core.Bool.{Bool, true, false, cond}
 use mathlib.Core.List.{List, [], _∷_}
-use Prim.Native.Nat.{ℕ, _*_, _^_, _<_, _≤_}
+use Prim.Native.Nat.{ℕ, _+_, _*_, _^_, _≤_, _<_}
 use native.Mathlib.Omega.{arith}
 use lib.Dec.{leb, leb→le}
-use lib.IntN.{ℤ, pos, negℤ, _-ℤ_, +ℤ-idl}
+use lib.IntN.{ℤ, pos, _-ℤ_}
 use lib.ListN.{length, drop, length-append}
 use mir.Syntax.{w64}
 use mir.Val.{SFits, toZ, ofZ}
 use mir.ValLaws.{toZ-ofZ}
-use Rattle.numbers.proofs.Integers.{abs-neg, abs-fits}
+use Rattle.numbers.proofs.Integers.{abs-sub, abs-fits}
 use Rattle.meaning.specs.declared.Answer.{Answer}
 use Rattle.meaning.specs.declared.Answer.the-variants.{Accepted, Refused}
 use Rattle.meaning.specs.declared.Printed.{Printed}
@@ -18,15 +18,19 @@ use Rattle.meaning.specs.declared.Printed.the-variants as out
 use Rattle.meaning.specs.declared.Refusal.{Refusal}
 use Rattle.meaning.specs.declared.Refusal.the-variants as no
 use Rattle.meaning.specs.Graph.{rowLength}
-use Rattle.meaning.specs.Refusals.{mostRows, rankingOrder, widthsOrder, ranked, measured, Done}
+use Rattle.meaning.specs.Refusals.{number, placeOf, mostRows, rankingOrder, widthsOrder, ranked, measured, Done}
 use Rattle.meaning.specs.Basics.{over}
 use Rattle.meaning.specs.Listing.{textRoom, jobText, printedTold, textWritten}
 use Rattle.laws.proofs.Stages.{first-accepts, need-accepts}
-use Rattle.exports.specs.Codes.{refusalCode, coded}
+use Rattle.exports.specs.Codes.{minus, refusalCode, coded}
 
 -- 0 - k, as the code works it
 pub minus-fits : (k : ℕ) → k < 2 ^ 63 → SFits w64 (pos 0 -ℤ pos k)
-minus-fits k h = rw (+ℤ-idl (negℤ (pos k))) (abs-fits _ (rw (abs-neg (pos k)) h))
+minus-fits k h = abs-fits (pos 0 -ℤ pos k) (omega (arith, abs-sub (pos 0) (pos k)))
+
+pub refusal-told : (why : Refusal) (z : ℤ) (k : ℕ) → z ≡ minus k → k ≡ 1000 * number why + placeOf why → z ≡ refusalCode why
+unfolding refusalCode
+refusal-told why z k e f = e ∙ ap minus f
 
 -- the code of a refusal, or of acceptance, is that of the answer which was one
 pub refused-coded : (a : Answer) (why : Refusal) (n : ℕ) → a ≡ Refused why → refusalCode why ≡ coded a n

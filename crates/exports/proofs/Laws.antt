@@ -21,7 +21,7 @@ use Rattle.meaning.specs.Generator.{generated}
 use Rattle.meaning.specs.Refusals.{number, placeOf, need, needEach, firstOf, mostRows, bitLimit, listLength, rowCount, validRows, allServed, inputWidth, buffer, fewRows, admitOrder, checkOrder, productsOrder, widthsOrder, rankingOrder, generateOrder, distanceOrder, checked, multiplied, measured, ranked, drawn}
 use Rattle.laws.proofs.Graphs.{length-rows}
 use Rattle.laws.proofs.Stages.{never-both, need-accepts, need-refuses, each-refuses, rows-refuse}
-use Rattle.exports.specs.Codes.{refusalCode}
+use Rattle.exports.specs.Codes.{minus, refusalCode}
 
 -- ---- number and place
 
@@ -40,12 +40,12 @@ some-number no.Target = omega arith
 some-number (no.Job p) = omega arith
 
 size : (why : Refusal) → natAbs (refusalCode why) ≡ 1000 * number why + placeOf why
-unfolding refusalCode
+unfolding refusalCode minus
 size why = abs-neg (pos (1000 * number why + placeOf why))
 
 -- a code of 0 or more is no refusal's
 pub refused-below-0 : (why : Refusal) (n : ℕ) → refusalCode why ≡ pos n → ⊥
-unfolding refusalCode
+unfolding refusalCode minus
 refused-below-0 why n e = go (1000 * number why + placeOf why) (let h = some-number why in omega arith) e
   where
     go : (k : ℕ) → 1 ≤ k → negℤ (pos k) ≡ pos n → ⊥

@@ -10,9 +10,13 @@ use Rattle.meaning.specs.declared.Printed.the-variants as out
 use Rattle.meaning.specs.declared.Refusal.{Refusal}
 use Rattle.meaning.specs.Refusals.{number, placeOf, drawnRows, drawnAnswer, farSteps, farAnswer}
 
+-- -k
+unfoldable pub minus : ℕ → ℤ
+minus k = negℤ (pos k)
+
 -- minus (1000 × number + place); places are below 1000, so both can be read off
 unfoldable pub refusalCode : Refusal → ℤ
-refusalCode why = negℤ (pos (1000 * number why + placeOf why))
+refusalCode why = minus (1000 * number why + placeOf why)
 
 -- n where the call accepts
 unfoldable pub coded : Answer → ℕ → ℤ

@@ -9,14 +9,23 @@ ghost use lib.ListN.{length};
 ghost use Rattle.meaning.specs.declared.Answer.the-variants.{Accepted};
 ghost use Rattle.meaning.specs.Listing.{printedTold, textWritten};
 ghost use Rattle.meaning.specs.Refusals.{Done, checked, multiplied, productsWritten, measured, widthsWritten, ranked, rankingWritten, drawnTold, rowsWritten, distanceTold};
-ghost use Rattle.exports.specs.Codes.{refusalCode, coded, drawnCode, farCode, printedCode};
+ghost use Rattle.exports.specs.Codes.{minus, refusalCode, coded, drawnCode, farCode, printedCode};
+
+// -k
+fn negative(k: u64) -> i64
+    requires { ⌜ k < 2 ^ 63 ⌝ }
+    ensures { λ r. ⌜ r ≡ minus k ⌝ }
+{
+    0 - (k as i64)
+}
 
 // A refusal's code: never 0 or more.
 fn refused(why: Refusal) -> i64
     ensures { λ r. ⌜ r ≡ refusalCode why ⌝ }
 {
-    let told = 1000 * (why.number() as u64) + why.place() as u64;
-    -(told as i64)
+    let number = why.number() as u64;
+    let place = why.place() as u64;
+    negative(1000 * number + place)
 }
 
 // The code of an answer, with n for acceptance.
@@ -39,7 +48,9 @@ pub extern "C" fn tauwaage_generate(bits: u32, targets: &[i32], words: &mut [u32
         ⌝ }
 {
     let drawn = generator::generate(bits, targets, words);
-    code(drawn.answer(), drawn.rows() as usize)
+    let answer = drawn.answer();
+    let drawn_rows = drawn.rows() as usize;
+    code(answer, drawn_rows)
 }
 
 // Checks any graph; answers 0.
@@ -84,8 +95,9 @@ pub extern "C" fn tauwaage_widths(
         (widthsWritten bits (now (targets .entry)) rows (now (words .entry)) input (length (now (out .entry)))) r (now (out .entry)) (now (out .exit))
         ⌝ }
 {
+    let answer = widths::measure(bits, targets, rows, words, input, out);
     // the sum can wrap where the call refuses
-    match widths::measure(bits, targets, rows, words, input, out) {
+    match answer {
         Answer::Accepted => code(Answer::Accepted, rows + targets.len()),
         Answer::Refused(why) => refused(why),
     }
@@ -116,7 +128,9 @@ pub extern "C" fn tauwaage_distance(bits: u32, ready: &[u32], target: u32) -> i6
     ensures { λ r. ⌜ r ≡ farCode (distanceTold bits (now (ready .entry)) target) ⌝ }
 {
     let far = distance::distance(bits, ready, target);
-    code(far.answer(), far.steps() as usize)
+    let answer = far.answer();
+    let steps = far.steps() as usize;
+    code(answer, steps)
 }
 
 // A job's listing, or the line of its refusal, over the front of out; answers its bytes.
@@ -127,7 +141,8 @@ pub extern "C" fn tauwaage_job(text: &[u8], out: &mut [u8]) -> i64
         (textWritten (now (text .entry)) (length (now (out .entry)))) r (now (out .entry)) (now (out .exit))
         ⌝ }
 {
-    match reply::answer(text, out) {
+    let printed = reply::answer(text, out);
+    match printed {
         Printed::Bytes(n) => code(Answer::Accepted, n),
         Printed::Refused(why) => refused(why),
     }

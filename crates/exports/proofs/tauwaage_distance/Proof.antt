@@ -20,8 +20,8 @@ answer-requires c κs = search needs
 steps-requires : tie.Need-steps-requires
 steps-requires c κs = search needs
 
-cast-code : tie.Need-cast-code
-cast-code c = search needs
+cast-steps : tie.Need-cast-steps
+cast-steps c = search needs
 
 code-requires : tie.Need-code-requires
 code-requires c κs = search needs
@@ -35,4 +35,4 @@ returns c =
 pub tauwaage-distance-spec : {M : Type 1} → statement M
 tauwaage-distance-spec =
     tie.close
-    (tie.spec distance-requires answer-requires steps-requires cast-code code-requires returns)
+    (tie.spec distance-requires answer-requires steps-requires cast-steps code-requires returns)

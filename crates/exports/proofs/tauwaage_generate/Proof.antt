@@ -20,8 +20,8 @@ answer-requires c κs = search needs
 rows-requires : tie.Need-rows-requires
 rows-requires c κs = search needs
 
-cast-code : tie.Need-cast-code
-cast-code c = search needs
+cast-drawn-rows : tie.Need-cast-drawn-rows
+cast-drawn-rows c = search needs
 
 code-requires : tie.Need-code-requires
 code-requires c κs = search needs
@@ -45,7 +45,7 @@ tauwaage-generate-spec =
     generate-requires
     answer-requires
     rows-requires
-    cast-code
+    cast-drawn-rows
     code-requires
     same-length
     returns)

@@ -19,16 +19,16 @@ fit2 c = search needs
 answer-requires : tie.Need-answer-requires
 answer-requires c κs = search needs
 
-enum-known-n : tie.Need-enum-known-n
-enum-known-n c = search needs
+enum-known-printed : tie.Need-enum-known-printed
+enum-known-printed c = search needs
 
 code-requires : tie.Need-code-requires
 code-requires c κs =
     let d = c .before .before .before .before .before in
-    λ e. omega (arith, bytes-within _ _ _ _ _ (d .answer .ensures) (c .before .n .given .1) (c .before .before .before .before .out .given))
+    λ e. omega (arith, bytes-within _ _ _ _ _ (d .answer .ensures) (c .before .printed .given .1) (c .before .before .before .before .out .given))
 
-enum-known-why : tie.Need-enum-known-why
-enum-known-why c = search needs
+enum-known-printed-2 : tie.Need-enum-known-printed-2
+enum-known-printed-2 c = search needs
 
 refused-requires : tie.Need-refused-requires
 refused-requires c κs = search needs
@@ -42,7 +42,7 @@ returns c =
     let t = c .before .before in
     let d = t .before .before .before .before in
     record {
-      answers = toZ-ofZ w64 _ (fit c) ∙ c .code .ensures ∙ ap printedCode (sym (t .n .given .1) ∙ d .answer .ensures .answers);
+      answers = toZ-ofZ w64 _ (fit c) ∙ c .code .ensures ∙ ap printedCode (sym (t .printed .given .1) ∙ d .answer .ensures .answers);
       writes = d .answer .ensures .writes;
     }
 
@@ -55,7 +55,7 @@ returns-2 c =
     let t = c .before .before in
     let d = t .before .before .before .before in
     record {
-      answers = toZ-ofZ w64 _ (fit2 c) ∙ c .refused .ensures ∙ ap printedCode (sym (t .why .given .1) ∙ d .answer .ensures .answers);
+      answers = toZ-ofZ w64 _ (fit2 c) ∙ c .refused .ensures ∙ ap printedCode (sym (t .printed2 .given .1) ∙ d .answer .ensures .answers);
       writes = d .answer .ensures .writes;
     }
 
@@ -64,9 +64,9 @@ tauwaage-job-spec =
     tie.close
     (tie.spec
     answer-requires
-    enum-known-n
+    enum-known-printed
     code-requires
-    enum-known-why
+    enum-known-printed-2
     refused-requires
     same-length
     returns

@@ -31,8 +31,8 @@ add-code c = omega (arith, few c)
 code-requires : tie.Need-code-requires
 code-requires c κs = λ e. omega (arith, few c)
 
-enum-known-why : tie.Need-enum-known-why
-enum-known-why c = search needs
+enum-known-answer : tie.Need-enum-known-answer
+enum-known-answer c = search needs
 
 refused-requires : tie.Need-refused-requires
 refused-requires c κs = search needs
@@ -51,7 +51,7 @@ same-length-2 c = search needs
 returns-2 : tie.Need-returns-2
 returns-2 c =
     let d = c .before .before .before .before .before .before in
-    coded-done _ _ _ _ _ _ _ (fit2 c) (c .refused .ensures ∙ refused-coded _ _ _ (c .before .before .why .given .1)) (d .measure .ensures)
+    coded-done _ _ _ _ _ _ _ (fit2 c) (c .refused .ensures ∙ refused-coded _ _ _ (c .before .before .answer .given .1)) (d .measure .ensures)
 
 pub tauwaage-widths-spec : {M : Type 1} → statement M
 tauwaage-widths-spec =
@@ -61,7 +61,7 @@ tauwaage-widths-spec =
     enum-told
     add-code
     code-requires
-    enum-known-why
+    enum-known-answer
     refused-requires
     same-length
     returns
