@@ -1,10 +1,9 @@
 -- `tauwaage_check` meets its contract: the check's answer, and 0 for acceptance. Assumes nothing.
-use mathlib.Core.Path.{ap, _∙_}
+use native.Mathlib.Omega.{arith}
 use borrow.Author.Needs.{needs}
 use mir.Syntax.{w64}
 use mir.Val.{SFits}
-use mir.ValLaws.{toZ-ofZ}
-use Rattle.exports.specs.Codes.{coded}
+use Rattle.exports.proofs.Handed.{coded-is}
 use Rattle.exports.proofs.tauwaage_check.Statement.{statement}
 use Rattle.exports.proofs.tauwaage_check.Tie as tie
 
@@ -18,7 +17,7 @@ code-requires : tie.Need-code-requires
 code-requires c κs = search needs
 
 returns : tie.Need-returns
-returns c = toZ-ofZ w64 _ (fit c) ∙ c .code .ensures ∙ ap (λ a. coded a 0) (c .before .check .ensures)
+returns c = coded-is _ _ _ _ _ (fit c) (c .code .ensures) (omega arith) (c .before .check .ensures)
 
 pub tauwaage-check-spec : {M : Type 1} → statement M
 tauwaage-check-spec = tie.close (tie.spec check-requires code-requires returns)

@@ -1,10 +1,11 @@
 -- `tauwaage_distance` meets its contract: the distance's answer and steps. Assumes nothing.
-use mathlib.Core.Path.{ap, ap₂, _∙_}
+use mathlib.Core.Path.{ap, _∙_}
+use native.Mathlib.Omega.{arith}
 use borrow.Author.Needs.{needs}
 use mir.Syntax.{w64}
 use mir.Val.{SFits}
-use mir.ValLaws.{toZ-ofZ}
-use Rattle.exports.specs.Codes.{coded, farCode}
+use Rattle.exports.specs.Codes.{farCode}
+use Rattle.exports.proofs.Handed.{far-is}
 use Rattle.exports.proofs.tauwaage_distance.Statement.{statement}
 use Rattle.exports.proofs.tauwaage_distance.Tie as tie
 
@@ -27,10 +28,10 @@ code-requires : tie.Need-code-requires
 code-requires c κs = search needs
 
 returns : tie.Need-returns
-unfolding farCode
 returns c =
     let d = c .before .before .before in
-    toZ-ofZ w64 _ (fit c) ∙ c .code .ensures ∙ ap₂ coded (c .before .before .answer .ensures) (c .before .steps .ensures) ∙ ap farCode (d .distance .ensures)
+    far-is (d .distance .result) _ _ _ (fit c) (c .code .ensures) (c .before .before .answer .ensures) (omega (arith, c .before .steps .ensures))
+    ∙ ap farCode (d .distance .ensures)
 
 pub tauwaage-distance-spec : {M : Type 1} → statement M
 tauwaage-distance-spec =

@@ -1,10 +1,11 @@
 -- `tauwaage_generate` meets its contract: the generator's answer and rows, and what it wrote. Assumes nothing.
-use mathlib.Core.Path.{ap, ap₂, _∙_}
+use mathlib.Core.Path.{ap, _∙_}
+use native.Mathlib.Omega.{arith}
 use borrow.Author.Needs.{needs}
 use mir.Syntax.{w64}
 use mir.Val.{SFits}
-use mir.ValLaws.{toZ-ofZ}
-use Rattle.exports.specs.Codes.{coded, drawnCode}
+use Rattle.exports.specs.Codes.{drawnCode}
+use Rattle.exports.proofs.Handed.{drawn-is}
 use Rattle.exports.proofs.tauwaage_generate.Statement.{statement}
 use Rattle.exports.proofs.tauwaage_generate.Tie as tie
 
@@ -30,11 +31,12 @@ same-length : tie.Need-same-length
 same-length c = search needs
 
 returns : tie.Need-returns
-unfolding drawnCode
 returns c =
     let d = c .before .before .before .before .before in
     record {
-      answers = toZ-ofZ w64 _ (fit c) ∙ c .code .ensures ∙ ap₂ coded (c .before .before .answer .ensures) (c .before .rows .ensures) ∙ ap drawnCode (d .generate .ensures .answers);
+      answers =
+          drawn-is (d .generate .result) _ _ _ (fit c) (c .code .ensures) (c .before .before .answer .ensures) (omega (arith, c .before .rows .ensures))
+          ∙ ap drawnCode (d .generate .ensures .answers);
       writes = d .generate .ensures .writes;
     }
 

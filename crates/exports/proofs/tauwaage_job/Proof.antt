@@ -1,12 +1,11 @@
 -- `tauwaage_job` meets its contract: the text's bytes, which its buffer holds, and what was written. Assumes nothing.
-use mathlib.Core.Path.{sym, ap, _∙_}
+use mathlib.Core.Path.{ap, _∙_}
 use native.Mathlib.Omega.{arith}
 use borrow.Author.Needs.{needs}
 use mir.Syntax.{w64}
 use mir.Val.{SFits}
-use mir.ValLaws.{toZ-ofZ}
-use Rattle.exports.specs.Codes.{coded, printedCode}
-use Rattle.exports.proofs.Handed.{bytes-within}
+use Rattle.exports.specs.Codes.{printedCode}
+use Rattle.exports.proofs.Handed.{bytes-within, bytes-are, print-refused}
 use Rattle.exports.proofs.tauwaage_job.Statement.{statement}
 use Rattle.exports.proofs.tauwaage_job.Tie as tie
 
@@ -37,12 +36,11 @@ same-length : tie.Need-same-length
 same-length c = search needs
 
 returns : tie.Need-returns
-unfolding coded printedCode
 returns c =
     let t = c .before .before in
     let d = t .before .before .before .before in
     record {
-      answers = toZ-ofZ w64 _ (fit c) ∙ c .code .ensures ∙ ap printedCode (sym (t .printed .given .1) ∙ d .answer .ensures .answers);
+      answers = bytes-are _ _ _ _ (fit c) (c .code .ensures) (t .printed .given .1) (omega arith) ∙ ap printedCode (d .answer .ensures .answers);
       writes = d .answer .ensures .writes;
     }
 
@@ -50,12 +48,11 @@ same-length-2 : tie.Need-same-length-2
 same-length-2 c = search needs
 
 returns-2 : tie.Need-returns-2
-unfolding coded printedCode
 returns-2 c =
     let t = c .before .before in
     let d = t .before .before .before .before in
     record {
-      answers = toZ-ofZ w64 _ (fit2 c) ∙ c .refused .ensures ∙ ap printedCode (sym (t .printed2 .given .1) ∙ d .answer .ensures .answers);
+      answers = print-refused _ _ _ (fit2 c) (c .refused .ensures) (t .printed2 .given .1) ∙ ap printedCode (d .answer .ensures .answers);
       writes = d .answer .ensures .writes;
     }
 

@@ -1,4 +1,5 @@
 -- `tauwaage_products` meets its contract: the answer with the number of targets, and what was written. Assumes nothing.
+use native.Mathlib.Omega.{arith}
 use borrow.Author.Needs.{needs}
 use mir.Syntax.{w32, w64}
 use mir.Val.{SFits}
@@ -22,7 +23,7 @@ same-length c = search needs
 returns : tie.Need-returns
 returns c =
     let d = c .before .before in
-    coded-done _ _ _ _ _ _ _ (fit c) (c .code .ensures) (rw (toZ-ofZ w32 _ (d .before .before .before .fits .x)) at (d .multiply .ensures))
+    coded-done _ _ _ _ _ _ _ _ (fit c) (c .code .ensures) (omega arith) (rw (toZ-ofZ w32 _ (d .before .before .before .fits .x)) at (d .multiply .ensures))
 
 pub tauwaage-products-spec : {M : Type 1} → statement M
 tauwaage-products-spec = tie.close (tie.spec multiply-requires code-requires same-length returns)

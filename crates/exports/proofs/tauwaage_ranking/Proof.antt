@@ -21,7 +21,7 @@ same-length : tie.Need-same-length
 same-length c = search needs
 
 returns : tie.Need-returns
-returns c = coded-done _ _ _ _ _ _ _ (fit c) (c .code .ensures) (c .before .before .before .rank .ensures)
+returns c = coded-done _ _ _ _ _ _ _ _ (fit c) (c .code .ensures) (omega arith) (c .before .before .before .rank .ensures)
 
 pub tauwaage-ranking-spec : {M : Type 1} → statement M
 tauwaage-ranking-spec = tie.close (tie.spec rank-requires code-requires same-length returns)

@@ -1,12 +1,12 @@
 -- `tauwaage_widths` meets its contract: the answer with rows + targets, and what was written. Assumes nothing.
-use mathlib.Core.Path.{sym, _∙_}
+use mathlib.Core.Path.{refl, sym, _∙_}
 use Prim.Native.Nat.{_≤_}
 use native.Mathlib.Omega.{arith}
 use borrow.Author.Needs.{needs}
 use mir.Syntax.{w64}
 use mir.Val.{SFits}
-use Rattle.exports.proofs.Handed.{accepted-coded, refused-coded, coded-done, measured-rows}
 use Rattle.meaning.specs.Refusals.{mostRows}
+use Rattle.exports.proofs.Handed.{accepted-coded, refused-coded, coded-done, measured-rows}
 use Rattle.exports.proofs.tauwaage_widths.Statement.{statement}
 use Rattle.exports.proofs.tauwaage_widths.Tie as tie
 
@@ -43,7 +43,7 @@ same-length c = search needs
 returns : tie.Need-returns
 returns c =
     let d = c .before .before .before .before .before in
-    coded-done _ _ _ _ _ _ _ (fit c) (c .code .ensures ∙ accepted-coded _ _ (c .before .enum-told .given .1)) (d .measure .ensures)
+    coded-done _ _ _ _ _ _ _ _ (fit c) (c .code .ensures ∙ accepted-coded _ _ (c .before .enum-told .given .1)) (omega arith) (d .measure .ensures)
 
 same-length-2 : tie.Need-same-length-2
 same-length-2 c = search needs
@@ -51,7 +51,7 @@ same-length-2 c = search needs
 returns-2 : tie.Need-returns-2
 returns-2 c =
     let d = c .before .before .before .before .before .before in
-    coded-done _ _ _ _ _ _ _ (fit2 c) (c .refused .ensures ∙ refused-coded _ _ _ (c .before .before .answer .given .1)) (d .measure .ensures)
+    coded-done _ _ _ _ _ _ _ _ (fit2 c) (c .refused .ensures ∙ refused-coded _ _ _ (c .before .before .answer .given .1)) refl (d .measure .ensures)
 
 pub tauwaage-widths-spec : {M : Type 1} → statement M
 tauwaage-widths-spec =
