@@ -1,0 +1,27 @@
+-- `tauwaage_ranking` meets its contract: the answer with the number of rows, and what was written. Assumes nothing.
+use mathlib.Core.Path.{sym, _∙_}
+use native.Mathlib.Omega.{arith}
+use borrow.Author.Needs.{needs}
+use mir.Syntax.{w64}
+use mir.Val.{SFits}
+use Rattle.exports.proofs.Handed.{coded-done, ranked-rows}
+use Rattle.exports.proofs.tauwaage_ranking.Statement.{statement}
+use Rattle.exports.proofs.tauwaage_ranking.Tie as tie
+
+fit : (c : tie.After-code) → SFits w64 (c .code .result)
+fit c = search needs
+
+rank-requires : tie.Need-rank-requires
+rank-requires c κs = search needs
+
+code-requires : tie.Need-code-requires
+code-requires c κs = λ e. omega (arith, ranked-rows _ _ _ _ _ _ (sym (c .before .before .rank .ensures .answers) ∙ e))
+
+same-length : tie.Need-same-length
+same-length c = search needs
+
+returns : tie.Need-returns
+returns c = coded-done _ _ _ _ _ _ _ _ (fit c) (c .code .ensures) (omega arith) (c .before .before .before .rank .ensures)
+
+pub tauwaage-ranking-spec : {M : Type 1} → statement M
+tauwaage-ranking-spec = tie.close (tie.spec rank-requires code-requires same-length returns)

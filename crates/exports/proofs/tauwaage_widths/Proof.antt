@@ -1,0 +1,69 @@
+-- `tauwaage_widths` meets its contract: the answer with rows + targets, and what was written. Assumes nothing.
+use mathlib.Core.Path.{refl, sym, _∙_}
+use Prim.Native.Nat.{_≤_}
+use native.Mathlib.Omega.{arith}
+use borrow.Author.Needs.{needs}
+use mir.Syntax.{w64}
+use mir.Val.{SFits}
+use Rattle.meaning.specs.Refusals.{mostRows}
+use Rattle.exports.proofs.Handed.{accepted-coded, refused-coded, coded-done, measured-rows}
+use Rattle.exports.proofs.tauwaage_widths.Statement.{statement}
+use Rattle.exports.proofs.tauwaage_widths.Tie as tie
+
+fit : (c : tie.After-code) → SFits w64 (c .code .result)
+fit c = search needs
+
+fit2 : (c : tie.After-refused) → SFits w64 (c .refused .result)
+fit2 c = search needs
+
+few : (c : tie.After-enum-told) → c .before .before .before .before .before .before .before .before .args .rows ≤ mostRows
+few c = measured-rows _ _ _ _ _ _ (sym (c .before .before .before .before .measure .ensures .answers) ∙ c .enum-told .given .1)
+
+measure-requires : tie.Need-measure-requires
+measure-requires c κs = search needs
+
+enum-told : tie.Need-enum-told
+enum-told c = search needs
+
+add-code : tie.Need-add-code
+add-code c = omega (arith, few c)
+
+code-requires : tie.Need-code-requires
+code-requires c κs = λ e. omega (arith, few c)
+
+enum-known-answer : tie.Need-enum-known-answer
+enum-known-answer c = search needs
+
+refused-requires : tie.Need-refused-requires
+refused-requires c κs = search needs
+
+same-length : tie.Need-same-length
+same-length c = search needs
+
+returns : tie.Need-returns
+returns c =
+    let d = c .before .before .before .before .before in
+    coded-done _ _ _ _ _ _ _ _ (fit c) (c .code .ensures ∙ accepted-coded _ _ (c .before .enum-told .given .1)) (omega arith) (d .measure .ensures)
+
+same-length-2 : tie.Need-same-length-2
+same-length-2 c = search needs
+
+returns-2 : tie.Need-returns-2
+returns-2 c =
+    let d = c .before .before .before .before .before .before in
+    coded-done _ _ _ _ _ _ _ _ (fit2 c) (c .refused .ensures ∙ refused-coded _ _ _ (c .before .before .answer .given .1)) refl (d .measure .ensures)
+
+pub tauwaage-widths-spec : {M : Type 1} → statement M
+tauwaage-widths-spec =
+    tie.close
+    (tie.spec
+    measure-requires
+    enum-told
+    add-code
+    code-requires
+    enum-known-answer
+    refused-requires
+    same-length
+    returns
+    same-length-2
+    returns-2)
