@@ -17,8 +17,8 @@ use Rattle.meaning.specs.Distance.{oneOp?, reach?}
 use Rattle.laws.proofs.Tests.{eq→eqb, true-of, false-of}
 use Rattle.laws.proofs.Zeros.{zeros-left}
 use Rattle.reach.specs.Sides.{hits?, at?, sideTo?, with?, factor?, twice?}
-use Rattle.reach.specs.Marks.{bit, markOf, Holds, Adds, marked, Wide, State}
-use Rattle.reach.proofs.Sides.{any-up, hit-outcome, outcome-hit, one-self, reach-add}
+use Rattle.reach.specs.Marks.{bit, markOf, Holds, Adds, marked, Wide, Odd, State}
+use Rattle.reach.proofs.Sides.{any-up, hit-outcome, outcome-hit, side-stop, one-self, reach-add}
 
 -- ---- additions
 
@@ -154,6 +154,15 @@ pub side-more : (L u v l : ℕ) {a b c d : List ℕ} (x y : ℕ) → x ≡ size 
 side-more L u v l x y e f p q r =
     adds-then (adds-then p q (λ k. refl)) r
     (λ k. ap₂ (λ (m n : ℕ). (sideTo? L u v l k || hits? L m k) || hits? L n k) e f ∙ side-suc L u v l k)
+
+-- no shift from l on gives anything
+pub side-past : (L u v l : ℕ) {a b : List ℕ} → Odd L u → Odd L v → l ≤ L → u + 2 ^ L ≤ 2 ^ l * v
+    → Adds a b (λ c. sideTo? L u v l c) → Adds a b (λ c. sideTo? L u v (L + 1) c)
+side-past L u v l {a} {b} o p h q x =
+    record {
+      long = x .long;
+      marks = λ k i. x .marks k i ∙ ap (λ (t : Bool). markOf t (getD a k 0)) (side-stop L u v l (2 * k + 1) (o .0) (p .1) h q);
+    }
 
 -- ---- each value of a list
 

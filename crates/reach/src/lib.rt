@@ -5,11 +5,10 @@ ghost use mathlib.Core.List.{[], _∷_, _++_};
 ghost use Prim.Native.Nat.{_+_, _-_, _*_, _/_, _%_, _^_, _≤_, _<_, min};
 ghost use lib.Dec.{eqb};
 ghost use lib.ListN.{length, take};
-ghost use Rattle.meaning.specs.Basics.{any, upFrom};
-ghost use Rattle.meaning.specs.Operation.{size};
+ghost use Rattle.meaning.specs.Basics.{gap, any, upFrom};
 ghost use Rattle.meaning.specs.Distance.{oneOp?, reach?, serves?, candidates};
 ghost use Rattle.reach.specs.Sides.{hits?, sideTo?, with?, twice?};
-ghost use Rattle.reach.specs.Marks.{Holds, Adds, marked, Wide, Ready, State};
+ghost use Rattle.reach.specs.Marks.{Holds, Adds, marked, Wide, Odd, Ready, State};
 ghost use Rattle.reach.specs.Choices.{both?, met, Apart, scanned, chosenIn};
 
 // The smallest value that serves and the candidates tried, or only these.
@@ -26,19 +25,22 @@ fn power(l: u32) -> u64
     1u64 << l
 }
 
-// |u + (-1)^s 2^l v|
-fn size_of(u: u64, v: u64, l: u32, s: u32) -> u64
-    requires { ⌜ (u < 2 ^ 19) × (v < 2 ^ 19) × (l ≤ 19) × (s ≤ 1) ⌝ }
-    ensures { λ r. ⌜ r ≡ size u v 0 l s ⌝ }
+// 2^l v
+fn shifted(v: u64, l: u32) -> u64
+    requires { ⌜ (v < 2 ^ 19) × (l ≤ 19) ⌝ }
+    ensures { λ r. ⌜ r ≡ 2 ^ l * v ⌝ }
 {
-    let a = v << l;
-    if s == 0 {
-        return u + a;
+    v << l
+}
+
+// |a - b|
+fn apart(a: u64, b: u64) -> u64
+    ensures { λ r. ⌜ r ≡ gap a b ⌝ }
+{
+    if a < b {
+        return b - a;
     }
-    if u < a {
-        return a - u;
-    }
-    u - a
+    a - b
 }
 
 // n without its trailing zeros is marked, if that is below 2^top.
@@ -56,24 +58,30 @@ fn mark(map: &mut [u8], top: u32, n: u64)
     }
 }
 
-// All results of operations on u as it is and v shifted are marked.
+// All results of operations on u as it is and v shifted are marked. Both are odd and below 2^top, so once v is shifted so far
+// that even the difference is not below 2^top, no greater shift gives anything.
 fn side(map: &mut [u8], top: u32, u: u32, v: u32)
-    requires { ⌜ Wide top (now map) × (u < 2 ^ 19) × (v < 2 ^ 19) ⌝ }
+    requires { ⌜ Wide top (now map) × Odd top u × Odd top v ⌝ }
     ensures { λ _. ⌜ Adds (now (map .entry)) (now (map .exit)) (λ c. sideTo? top u v (top + 1) c) ⌝ }
 {
     let a = u as u64;
     let b = v as u64;
+    let far = a + power(top);
     let mut l: u32 = 0;
     while l <= top {
-        mark(map, top, size_of(a, b, l, 0));
-        mark(map, top, size_of(a, b, l, 1));
+        let w = shifted(b, l);
+        if w >= far {
+            return;
+        }
+        mark(map, top, a + w);
+        mark(map, top, apart(a, w));
         l += 1;
     }
 }
 
 // All results of operations on u and v are marked: one of the two shifts is 0.
 fn pair(map: &mut [u8], top: u32, u: u32, v: u32)
-    requires { ⌜ Wide top (now map) × (u < 2 ^ 19) × (v < 2 ^ 19) ⌝ }
+    requires { ⌜ Wide top (now map) × Odd top u × Odd top v ⌝ }
     ensures { λ _. ⌜ Adds (now (map .entry)) (now (map .exit)) (λ c. oneOp? top u v c) ⌝ }
 {
     side(map, top, u, v);
@@ -82,7 +90,7 @@ fn pair(map: &mut [u8], top: u32, u: u32, v: u32)
 
 // All results of operations on v and each ready value are marked.
 fn with_each(map: &mut [u8], top: u32, ready: &[u32], n: usize, v: u32)
-    requires { ⌜ Wide top (now map) × Ready top (now ready) n × (v < 2 ^ 19) ⌝ }
+    requires { ⌜ Wide top (now map) × Ready top (now ready) n × Odd top v ⌝ }
     ensures { λ _. ⌜ Adds (now (map .entry)) (now (map .exit)) (λ c. with? top v (take n (now (ready .entry))) c) ⌝ }
 {
     let mut i = 0;
@@ -94,22 +102,12 @@ fn with_each(map: &mut [u8], top: u32, ready: &[u32], n: usize, v: u32)
 
 // The map of what one operation on the first n ready values reaches becomes that with one value more.
 pub fn add(map: &mut [u8], top: u32, ready: &[u32], n: usize, v: u32)
-    requires { ⌜ State top (now map) (now ready) n × (v < 2 ^ top) ⌝ }
+    requires { ⌜ State top (now map) (now ready) n × Odd top v ⌝ }
     ensures { λ _. ⌜ length (now (map .exit)) ≡ length (now (map .entry)) ⌝ }
     ensures { λ _. ⌜ Holds (now (map .exit)) (λ c. reach? top (take n (now (ready .entry)) ++ (v ∷ [])) c) ⌝ }
 {
     with_each(map, top, ready, n, v);
     side(map, top, v, v);
-}
-
-// One ready value more, in its place and in the map.
-pub fn include(map: &mut [u8], top: u32, ready: &mut [u32], n: usize, v: u32)
-    requires { ⌜ State top (now map) (now ready) n × (n < length (now ready)) × (v % 2 ≡ 1) × (v < 2 ^ top) ⌝ }
-    ensures { λ _. ⌜ State top (now (map .exit)) (now (ready .exit)) (n + 1) ⌝ }
-    ensures { λ _. ⌜ take (n + 1) (now (ready .exit)) ≡ take n (now (ready .entry)) ++ (v ∷ []) ⌝ }
-{
-    add(map, top, ready, n, v);
-    ready[n] = v;
 }
 
 // The odd number c is marked.

@@ -1,5 +1,5 @@
 -- `start` meets its contract: a map of zeros holds what nothing ready reaches, and `add` makes it hold what 1 reaches. Assumes nothing.
-use mathlib.Core.Path.{ap, _∙_, subst⁻¹}
+use mathlib.Core.Path.{refl, ap, _∙_, subst⁻¹}
 use mathlib.Core.List.{List}
 use Prim.Native.Nat.{ℕ, _^_, _≤_}
 use native.Mathlib.Omega.{arith}
@@ -22,7 +22,7 @@ add-requires c κs =
     let m : 2 ≤ 2 ^ st .args .top = pow-mono {i = 1} {j = st .args .top} (p .0) in (
       subst⁻¹ (λ (map : List ℕ). State (st .args .top) map (c .before .before .before .before .start .result .values) 0) (p .2)
           (start-65536 (st .args .top) _ (p .1)),
-      omega arith,
+      (refl, omega arith),
     )
 
 same-length : tie.Need-same-length

@@ -4,7 +4,7 @@ use mathlib.Core.Path.{_∙_}
 use native.Mathlib.Omega.{arith}
 use borrow.Author.Needs.{needs}
 use lib.ListN.{take}
-use Rattle.reach.proofs.Marks.{small, reach-more}
+use Rattle.reach.proofs.Marks.{reach-more}
 use Rattle.reach.proofs.add.Statement.{statement}
 use Rattle.reach.proofs.add.Tie as tie
 
@@ -12,14 +12,13 @@ with-each-requires : tie.Need-with-each-requires
 with-each-requires c κs =
     let st = c .before .before .before in
     let s = st .pre .0 in
-    (s .wide, s .values, small (st .args .top) (st .args .v) (s .wide .0) (st .pre .1))
+    (s .wide, s .values, st .pre .1)
 
 side-requires : tie.Need-side-requires
 side-requires c κs =
     let st = c .before .before .before .before .before .before .before in
     let w = st .pre .0 .wide in
-    let h = small (st .args .top) (st .args .v) (w .0) (st .pre .1) in
-    ((w .0, omega (arith, w .1, c .before .before .before .with-each .ensures .long)), h, h)
+    ((w .0, omega (arith, w .1, c .before .before .before .with-each .ensures .long)), st .pre .1, st .pre .1)
 
 same-length : tie.Need-same-length
 same-length c = search needs
