@@ -95,7 +95,7 @@ fn beyond_zero(top: u32, vals: &[u32], c: u32) -> Far
     if reach::reached(&map, c) {
         return Far::One;
     }
-    if reach::served(&map, top, vals, vals.len(), c) {
+    if serving::served(&map, top, vals, vals.len(), c) {
         return Far::Two;
     }
     Far::Beyond

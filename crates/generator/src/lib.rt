@@ -4,8 +4,8 @@ use meaning::Answer;
 use meaning::Drawn;
 use meaning::ROW_LENGTH;
 use meaning::Refusal;
-use reach::Choice;
 use ready::Ready;
+use serving::Choice;
 ghost use mathlib.Core.Path.{_≡_};
 ghost use mathlib.Core.List.{[], List·Memᴰ};
 ghost use Prim.Native.Nat.{_+_, _*_, _/_, _≤_, _<_};
@@ -78,7 +78,7 @@ fn pick(map: &[u8], top: u32, set: Ready, w: Wanted) -> Chosen
     let mut i = 0;
     while i < w.count {
         let c = w.values[i];
-        let choice = reach::choose(map, top, &set.values, set.count, c, 65535);
+        let choice = serving::choose(map, top, &set.values, set.count, c, 65535);
         if let Choice::At { s, tried: _ } = choice {
             return Chosen::By { c, s };
         }

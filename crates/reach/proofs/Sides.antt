@@ -1,15 +1,18 @@
 -- One operation on two values is a hit on one of the two sides; and with one value more a list reaches what it did, and what that value makes
 -- with each of the list's values and with itself. Assumes nothing.
-use mathlib.Core.Path.{_≡_, refl, ap, _∙_, subst}
-use mathlib.Core.Bool.{Bool, true, false, _||_}
+use mathlib.Core.Path.{_≡_, refl, sym, ap, _∙_, subst}
+use mathlib.Core.Bool.{Bool, true, false, _||_, or-false, or-assoc}
 use mathlib.Core.List.{List, [], _∷_, _++_, List·Memᴰ, List·Memᴰ·head, List·Memᴰ·append-cases, List·Memᴰ·eq-of-singleton, Memᴰ·append-left, Memᴰ·append-right}
 use mathlib.Core.Logic.{_⊎_, inl, inr, ⊎-elim}
 use Prim.Native.Nat.{ℕ, zero, suc, _+_, _-_, _*_, _/_, _%_, _^_, _≤_, _<_}
 use native.Mathlib.Omega.{arith}
 use native.Mathlib.Decide.{ℕ-discrete, decLe}
-use native.Mathlib.Nat.{pow-succ', mul-assoc, mul-le-mul-right}
+use native.Mathlib.Nat.{zero-add, pow-succ', mul-assoc, mul-le-mul-right}
+use native.Mathlib.Numerals.{add-one}
 use lib.Dec.{T}
+use lib.ListN.{length, getD, take}
 use lib.Pow.{pow-mono}
+use lib.Seq.{take-suc}
 use Rattle.meaning.specs.Basics.{gap, any, upFrom, zeros}
 use Rattle.meaning.specs.Operation.{size, Outcome, Valid, Gives}
 use Rattle.meaning.specs.Distance.{oneOp?, reach?}
@@ -223,3 +226,26 @@ reach-add L vals v c = bool-ext (reach? L (vals ++ (v ∷ [])) c) (reach? L vals
             of-right (reach? L vals c) _ (of-right (with? L v vals c) _
             (subst (λ z. T (oneOp? L z v c)) (List·Memᴰ·eq-of-singleton i)
             (subst (λ z. T (oneOp? L a z c)) (List·Memᴰ·eq-of-singleton j) w)))
+
+-- ---- the parts of a loop
+
+-- one shift more
+pub side-suc : (L u v l c : ℕ) → ((sideTo? L u v l c || hits? L (size u v 0 l 0) c) || hits? L (size u v 0 l 1) c) ≡ sideTo? L u v (l + 1) c
+unfolding sideTo? at?
+side-suc L u v l c =
+    or-assoc (sideTo? L u v l c) (hits? L (size u v 0 l 0) c) (hits? L (size u v 0 l 1) c)
+    ∙ ap (λ (n : ℕ). sideTo? L u v l c || at? L u v n c) (sym (zero-add l))
+    ∙ sym (any-up (λ n. at? L u v n c) 0 l)
+    ∙ ap (λ (n : ℕ). sideTo? L u v n c) (sym (add-one l))
+
+any-snoc : (f : ℕ → Bool) (xs : List ℕ) (y : ℕ) → any f (xs ++ (y ∷ [])) ≡ (any f xs || f y)
+any-snoc f [] y = or-false (f y)
+any-snoc f (x ∷ xs) y = ap (λ (b : Bool). f x || b) (any-snoc f xs y) ∙ sym (or-assoc (f x) (any f xs) (f y))
+
+-- one value more
+pub with-suc : (L v : ℕ) (xs : List ℕ) (i c : ℕ) → i < length xs → (with? L v (take i xs) c || oneOp? L v (getD xs i 0) c) ≡ with? L v (take (i + 1) xs) c
+unfolding with?
+with-suc L v xs i c h =
+    sym (any-snoc (λ u. oneOp? L v u c) (take i xs) (getD xs i 0))
+    ∙ ap (λ (l : List ℕ). with? L v l c) (sym (take-suc xs i 0 h))
+    ∙ ap (λ (n : ℕ). with? L v (take n xs) c) (sym (add-one i))

@@ -73,9 +73,7 @@ served-requires c κs =
     let st = f .before .before .before in
     let a = st .args in (
       f .fill .ensures,
-      st .pre .0,
-      st .pre .2,
-      st .pre .3,
+      (st .pre .2, st .pre .3),
       ap (λ (xs : List ℕ). reach? (a .top) xs (a .c)) (take-length (a .vals .now)) ∙ sym (one-is (c .before .before)) ∙ c .before .if1 .left,
     )
 

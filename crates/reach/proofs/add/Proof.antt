@@ -1,7 +1,6 @@
 -- `add` meets its contract: what one operation reaches with v is what it reached, what v makes with each ready value, and what it makes with
 -- itself. Assumes nothing.
 use mathlib.Core.Path.{_∙_}
-use native.Mathlib.Omega.{arith}
 use borrow.Author.Needs.{needs}
 use lib.ListN.{take}
 use Rattle.reach.proofs.Marks.{reach-more}
@@ -15,10 +14,7 @@ with-each-requires c κs =
     (s .wide, s .values, st .pre .1)
 
 side-requires : tie.Need-side-requires
-side-requires c κs =
-    let st = c .before .before .before .before .before .before .before in
-    let w = st .pre .0 .wide in
-    ((w .0, omega (arith, w .1, c .before .before .before .with-each .ensures .long)), st .pre .1, st .pre .1)
+side-requires c κs = search needs
 
 same-length : tie.Need-same-length
 same-length c = search needs
