@@ -103,15 +103,16 @@ start L n vals w =
       reach = zero-holds n;
     }
 
--- 65536 bytes are enough for 17 bits
-pub wide-of : (L : ℕ) (ms : List ℕ) → L ≤ 17 → length ms ≡ 65536 → Wide L ms
-wide-of L ms h e = let m : 2 ^ L ≤ 2 ^ 17 = pow-mono h in (omega arith, omega arith)
+-- a map of m zeros is enough for k bits, and so for fewer
+pub start-of : (L k m : ℕ) (vals : List ℕ) → L ≤ k → k ≤ 19 → 2 ^ k ≤ 2 * m → State L (replicate m 0) vals 0
+start-of L k m vals h l w =
+    let p : 2 ^ L ≤ 2 ^ k = pow-mono h in
+    start L m vals (omega arith, omega (arith, length-replicate {A = ℕ} m 0))
 
-pub zeros-long : length (replicate {A = ℕ} 65536 0) ≡ 65536
-zeros-long = length-replicate {A = ℕ} 65536 0
-
-pub start-65536 : (L : ℕ) (vals : List ℕ) → L ≤ 17 → State L (replicate 65536 0) vals 0
-start-65536 L vals h = start L 65536 vals (wide-of L (replicate 65536 0) h zeros-long)
+-- with nothing ready the list of values is of no account
+pub none-ready : (L : ℕ) (map xs ys : List ℕ) → State L map xs 0 → State L map ys 0
+none-ready L map xs ys s =
+    record { wide = s .wide; values = (omega arith, λ i j. absurd (let z : i < 0 = j in omega arith)); reach = s .reach }
 
 -- ---- n without its trailing zeros
 
