@@ -10,7 +10,7 @@ ghost use lib.ListN.{length};
 ghost use Rattle.meaning.specs.Basics.{has};
 ghost use Rattle.meaning.specs.Distance.{distance as Distance·distance};
 ghost use Rattle.meaning.specs.Refusals.{readyValues, distanceOrder, firstOf, distanceTold};
-ghost use Rattle.reach.specs.Marks.{Ready, State};
+ghost use Rattle.reach.specs.Marks.{Odd, Ready, State};
 
 // v is odd and below 2^l.
 fn odd_below(v: u32, l: u32) -> bool
@@ -84,21 +84,34 @@ fn listed(vals: &[u32], c: u32) -> bool
     false
 }
 
-// One operation, two, or more.
-fn beyond_zero(top: u32, vals: &[u32], c: u32) -> Far
-    requires { ⌜ (top ≤ 17) × Ready top (now vals) (length (now vals)) × (c % 2 ≡ 1) × (c < 2 ^ top)
+// One operation, two, or more, by a map of zeros.
+fn beyond_by(map: &mut [u8], top: u32, vals: &[u32], c: u32) -> Far
+    requires { ⌜ State top (now map) (now vals) 0 × Ready top (now vals) (length (now vals)) × Odd top c
         × (has (now vals) c ≡ false) ⌝ }
     ensures { λ r. ⌜ r ≡ Distance·distance top (now (vals .entry)) c ⌝ }
 {
-    let mut map = [0u8; 65536];
-    fill(&mut map, top, vals);
-    if reach::reached(&map, c) {
+    fill(map, top, vals);
+    if reach::reached(map, c) {
         return Far::One;
     }
-    if reach::served(&map, top, vals, vals.len(), c) {
+    if serving::served(map, top, vals, vals.len(), c) {
         return Far::Two;
     }
     Far::Beyond
+}
+
+// The same by a map of its own: a short one where it has a byte for each odd number, since clearing the long one takes longer
+// than all else there.
+fn beyond_zero(top: u32, vals: &[u32], c: u32) -> Far
+    requires { ⌜ (top ≤ 17) × Ready top (now vals) (length (now vals)) × Odd top c × (has (now vals) c ≡ false) ⌝ }
+    ensures { λ r. ⌜ r ≡ Distance·distance top (now (vals .entry)) c ⌝ }
+{
+    if top <= 13 {
+        let mut short = [0u8; 4096];
+        return beyond_by(&mut short, top, vals, c);
+    }
+    let mut long = [0u8; 65536];
+    beyond_by(&mut long, top, vals, c)
 }
 
 // The distance of c from the ready list, or the refusal.

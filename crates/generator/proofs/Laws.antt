@@ -26,12 +26,12 @@ use Rattle.draft.specs.Growth.{atMostOne}
 use Rattle.ready.specs.declared.Ready.{Ready}
 use Rattle.ready.specs.Listed.{Started}
 use Rattle.ready.proofs.Laws.{list-at}
-use Rattle.reach.specs.declared.Choice.{Choice}
-use Rattle.reach.specs.declared.Choice.the-variants.{At, Nothing}
-use Rattle.reach.specs.Choices.{chosenIn}
-use Rattle.reach.specs.Marks.{Holds, marked, State}
-use Rattle.reach.proofs.Marks.{wide-of, reached-is}
-use Rattle.reach.proofs.RuleB.{Served, b-empty, b-nothing, b-at, at-served}
+use Rattle.serving.specs.declared.Choice.{Choice}
+use Rattle.serving.specs.declared.Choice.the-variants.{At, Nothing}
+use Rattle.serving.specs.Choices.{chosenIn}
+use Rattle.reach.specs.Marks.{Holds, marked, Wide, State}
+use Rattle.reach.proofs.Marks.{reached-is}
+use Rattle.serving.proofs.RuleB.{Served, b-empty, b-nothing, b-at, at-served}
 use Rattle.generator.specs.declared.Near.{Near}
 use Rattle.generator.specs.declared.Near.the-variants as near
 use Rattle.generator.specs.Rule.{Lists, AllServable, firstMarked, Serves, NoneNear}
@@ -60,13 +60,13 @@ module _ (w : Wanted) (i : ℕ) (places : length (w .values) ≡ 16) (bound : w 
 
 -- ---- the input alone
 
-pub start-state : (L : ℕ) (map : List ℕ) (r : Ready) → 1 ≤ L → L ≤ 17 → Started r → length map ≡ 65536 → Holds map (λ c. reach? L (1 ∷ []) c)
+pub start-state : (L : ℕ) (map : List ℕ) (r : Ready) → 1 ≤ L → Started r → Wide L map → Holds map (λ c. reach? L (1 ∷ []) c)
     → State L map (r .values) (r .count)
-start-state L map r o b s e h =
+start-state L map r o s w h =
     let p : 2 ≤ 2 ^ L = pow-mono {i = 1} {j = L} o in
     let one : getD (r .values) 0 0 ≡ 1 = sym (list-at r 0 (omega (arith, s .one))) ∙ ap (λ (xs : List ℕ). getD xs 0 0) (s .list) in
     record {
-      wide = wide-of L map b e;
+      wide = w;
       values = (
         omega (arith, s .one, s .fit .places),
         λ i l. let z : i ≡ 0 = omega (arith, s .one) in rw (z, one) (refl, omega arith),
@@ -236,6 +236,10 @@ module _ (L : ℕ) (vals cs : List ℕ) (c : ℕ) (rest : List ℕ) (on : ruleB 
   -- as many trials as there are candidates find nothing
   pub picked-none : (k : ℕ) (r : Choice) (n : ℕ) → r ≡ chosenIn L vals c k → 2 ^ (L - 1) ≤ k + 1 → r ≡ Nothing n → ruleB L vals cs ≡ ruleB L vals rest
   picked-none k r n e h f = on ∙ b-nothing L vals c k n rest h (sym e ∙ f)
+
+-- 65535 trials are all the candidates that 17 bits have
+pub ceiling : (L : ℕ) → L ≤ 17 → 2 ^ (L - 1) ≤ 65535 + 1
+ceiling L h = pow-mono {i = L - 1} {j = 16} (omega arith)
 
 -- ---- a turn by its steps
 

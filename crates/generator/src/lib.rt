@@ -4,17 +4,19 @@ use meaning::Answer;
 use meaning::Drawn;
 use meaning::ROW_LENGTH;
 use meaning::Refusal;
-use reach::Choice;
 use ready::Ready;
+use serving::Choice;
 ghost use mathlib.Core.Path.{_≡_};
 ghost use mathlib.Core.List.{[], List·Memᴰ};
 ghost use Prim.Native.Nat.{_+_, _*_, _/_, _≤_, _<_};
-ghost use lib.ListN.{length, replicate};
+ghost use lib.ListN.{length};
 ghost use Rattle.constants.specs.Held.{kept};
+ghost use Rattle.meaning.specs.declared.Answer.the-variants.{Accepted};
 ghost use Rattle.meaning.specs.Basics.{over};
+ghost use Rattle.meaning.specs.Limits.{limit};
 ghost use Rattle.meaning.specs.Graph.{rowLength, flat};
 ghost use Rattle.meaning.specs.Generator.{remaining, turn as Generator·turn, turns};
-ghost use Rattle.meaning.specs.Refusals.{mostRows, Done, drawnTold, rowsWritten};
+ghost use Rattle.meaning.specs.Refusals.{mostRows, admitted, Done, drawnTold, rowsWritten};
 ghost use Rattle.ready.specs.Listed.{listed, Fit, Started};
 ghost use Rattle.reach.specs.Marks.{State};
 ghost use Rattle.draft.specs.Growth.{Open, Grown};
@@ -78,7 +80,7 @@ fn pick(map: &[u8], top: u32, set: Ready, w: Wanted) -> Chosen
     let mut i = 0;
     while i < w.count {
         let c = w.values[i];
-        let choice = reach::choose(map, top, &set.values, set.count, c, 65535);
+        let choice = serving::choose(map, top, &set.values, set.count, c, 65535);
         if let Choice::At { s, tried: _ } = choice {
             return Chosen::By { c, s };
         }
@@ -108,7 +110,7 @@ fn turn(map: &mut [u8], top: u32, set: Ready, out: &mut [u32], w: Wanted) -> Rea
 
 // The input alone.
 fn start(map: &mut [u8], top: u32) -> Ready
-    requires { ⌜ (1 ≤ top) × (top ≤ 17) × (now map ≡ replicate 65536 0) ⌝ }
+    requires { ⌜ (1 ≤ top) × State top (now map) [] 0 ⌝ }
     ensures { λ r. ⌜ Started r × State top (now (map .exit)) (r .values) (r .count) ⌝ }
 {
     let set = Ready::start();
@@ -118,7 +120,7 @@ fn start(map: &mut [u8], top: u32) -> Ready
 
 // As many turns as there are constants.
 fn draw(map: &mut [u8], top: u32, out: &mut [u32], w: Wanted) -> Ready
-    requires { ⌜ (1 ≤ top) × (top ≤ 17) × (now map ≡ replicate 65536 0) × (w .count ≤ 16) × AllServable top (kept w)
+    requires { ⌜ (1 ≤ top) × (top ≤ 17) × State top (now map) [] 0 × (w .count ≤ 16) × AllServable top (kept w)
         × (length (turns top (length (kept w)) (kept w) []) ≤ mostRows) × (rowLength * mostRows ≤ length (now out)) ⌝ }
     ensures { λ r. ⌜ (r .count ≡ length (turns top (length (kept w)) (kept w) []) + 1)
         × (now (out .exit) ≡ over (flat (turns top (length (kept w)) (kept w) [])) (now (out .entry))) ⌝ }
@@ -132,22 +134,38 @@ fn draw(map: &mut [u8], top: u32, out: &mut [u32], w: Wanted) -> Ready
     set
 }
 
+// The rows for an admitted list, by a map of zeros.
+fn rows_by(map: &mut [u8], b: u32, ts: &[i32], out: &mut [u32]) -> Drawn
+    requires { ⌜ State (limit b) (now map) [] 0 × (admitted b (now ts) ≡ Accepted) × (rowLength * mostRows ≤ length (now out)) ⌝ }
+    ensures { λ r. ⌜
+        Done (drawnTold b (now (ts .entry)) (length (now (out .entry)))) (rowsWritten b (now (ts .entry)) (length (now (out .entry)))) r
+        (now (out .entry)) (now (out .exit))
+        ⌝ }
+{
+    let set = draw(map, b + 1, out, constants::wanted_of(ts));
+    Drawn::Rows((set.count - 1) as u32)
+}
+
 // The rows of the generator's rule from the front of out, and how many they are. Refusals 1, 2, 3, 4; a 129th row is never
-// needed, so 8 does not come.
+// needed, so 8 does not come. A short map serves where it has a byte for each odd number: the long one takes longer to clear
+// than a small list to draw.
 pub fn generate(b: u32, ts: &[i32], out: &mut [u32]) -> Drawn
     ensures { λ r. ⌜
         Done (drawnTold b (now (ts .entry)) (length (now (out .entry)))) (rowsWritten b (now (ts .entry)) (length (now (out .entry)))) r
         (now (out .entry)) (now (out .exit))
         ⌝ }
 {
-    let admitted = constants::admit(b, ts);
-    if let Answer::Refused(why) = admitted {
+    let answer = constants::admit(b, ts);
+    if let Answer::Refused(why) = answer {
         return Drawn::Refused(why);
     }
     if out.len() < ROW_LENGTH * 128 {
         return Drawn::Refused(Refusal::Buffer);
     }
-    let mut map = [0u8; 65536];
-    let set = draw(&mut map, b + 1, out, constants::wanted_of(ts));
-    Drawn::Rows((set.count - 1) as u32)
+    if b <= 12 {
+        let mut short = [0u8; 4096];
+        return rows_by(&mut short, b, ts, out);
+    }
+    let mut long = [0u8; 65536];
+    rows_by(&mut long, b, ts, out)
 }

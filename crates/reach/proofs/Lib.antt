@@ -1,7 +1,4 @@
--- The laws of the maps and of the choice.
+-- The laws of the map.
 pub mod Sides
 pub mod Serves
 pub mod Marks
-pub mod Scan
-pub mod Choosing
-pub mod RuleB

@@ -2,23 +2,22 @@
 use mathlib.Core.Path.{_≡_, refl, sym, ap, ap₂, _∙_, subst}
 use mathlib.Core.Bool.{Bool, true, false, _||_}
 use mathlib.Core.List.{List, [], _∷_, _++_}
-use Prim.Native.Nat.{ℕ, zero, suc, _+_, _-_, _*_, _/_, _%_, _^_, _≤_, _<_}
+use Prim.Native.Nat.{ℕ, _+_, _*_, _/_, _%_, _^_, _≤_, _<_}
 use native.Mathlib.Decide.{ℕ-discrete}
 use native.Mathlib.Omega.{arith}
 use native.Mathlib.Numerals.{add-one}
-use native.Mathlib.Nat.{zero-add, mul-assoc, div-add-mod', div-le-self, mul-div-cancel, mul-mod-left}
-use lib.Dec.{T, eqb, eqb→eq}
+use lib.Dec.{T, eqb}
 use lib.ListN.{length, getD, set, take, replicate, length-set, length-replicate, getD-replicate}
 use lib.Pow.{pow-mono}
-use lib.Seq.{getD-set-same, getD-set-other, take-suc, take-suc-set}
-use Rattle.meaning.specs.Basics.{any, zeros}
+use lib.Seq.{getD-set-same, getD-set-other, take-suc-set}
+use Rattle.meaning.specs.Basics.{zeros}
 use Rattle.meaning.specs.Operation.{size}
 use Rattle.meaning.specs.Distance.{oneOp?, reach?}
-use Rattle.laws.proofs.Tests.{eq→eqb, true-of, false-of}
+use Rattle.laws.proofs.Tests.{true-of, false-of}
 use Rattle.laws.proofs.Zeros.{zeros-left}
-use Rattle.reach.specs.Sides.{hits?, at?, sideTo?, with?, factor?, twice?}
-use Rattle.reach.specs.Marks.{bit, markOf, Holds, Adds, marked, Wide, State}
-use Rattle.reach.proofs.Sides.{any-up, hit-outcome, outcome-hit, one-self, reach-add}
+use Rattle.reach.specs.Sides.{hits?, sideTo?, with?}
+use Rattle.reach.specs.Marks.{bit, markOf, Holds, Adds, marked, Wide, Odd, State}
+use Rattle.reach.proofs.Sides.{hit-outcome, outcome-hit, side-stop, side-suc, with-suc, one-self, reach-add}
 
 -- ---- additions
 
@@ -94,7 +93,7 @@ reached-is L map vals n c s o l =
 pub zero-holds : (n : ℕ) → Holds (replicate n 0) (λ s. false)
 zero-holds n = record { bits = λ k l. getD-replicate n k 0 0 (rw (sym (length-replicate {A = ℕ} n 0)) l) }
 
--- with nothing ready nothing is reached, so that a map of zeros is where `include` starts
+-- with nothing ready nothing is reached, so that a map of zeros is where `add` starts
 pub start : (L n : ℕ) (vals : List ℕ) → Wide L (replicate n 0) → State L (replicate n 0) vals 0
 unfolding reach?
 start L n vals w =
@@ -104,15 +103,16 @@ start L n vals w =
       reach = zero-holds n;
     }
 
--- 65536 bytes are enough for 17 bits
-pub wide-of : (L : ℕ) (ms : List ℕ) → L ≤ 17 → length ms ≡ 65536 → Wide L ms
-wide-of L ms h e = let m : 2 ^ L ≤ 2 ^ 17 = pow-mono h in (omega arith, omega arith)
+-- a map of m zeros is enough for k bits, and so for fewer
+pub start-of : (L k m : ℕ) (vals : List ℕ) → L ≤ k → k ≤ 19 → 2 ^ k ≤ 2 * m → State L (replicate m 0) vals 0
+start-of L k m vals h l w =
+    let p : 2 ^ L ≤ 2 ^ k = pow-mono h in
+    start L m vals (omega arith, omega (arith, length-replicate {A = ℕ} m 0))
 
-pub zeros-long : length (replicate {A = ℕ} 65536 0) ≡ 65536
-zeros-long = length-replicate {A = ℕ} 65536 0
-
-pub start-65536 : (L : ℕ) (vals : List ℕ) → L ≤ 17 → State L (replicate 65536 0) vals 0
-start-65536 L vals h = start L 65536 vals (wide-of L (replicate 65536 0) h zeros-long)
+-- with nothing ready the list of values is of no account
+pub none-ready : (L : ℕ) (map xs ys : List ℕ) → State L map xs 0 → State L map ys 0
+none-ready L map xs ys s =
+    record { wide = s .wide; values = (omega arith, λ i j. absurd (let z : i < 0 = j in omega arith)); reach = s .reach }
 
 -- ---- n without its trailing zeros
 
@@ -133,18 +133,6 @@ module _ (L : ℕ) (ms new : List ℕ) (n : ℕ) where
 
 -- ---- the sides
 
-or-assoc : (a b c : Bool) → ((a || b) || c) ≡ (a || (b || c))
-or-assoc true b c = refl
-or-assoc false b c = refl
-
-side-suc : (L u v l c : ℕ) → ((sideTo? L u v l c || hits? L (size u v 0 l 0) c) || hits? L (size u v 0 l 1) c) ≡ sideTo? L u v (l + 1) c
-unfolding sideTo? at?
-side-suc L u v l c =
-    or-assoc (sideTo? L u v l c) (hits? L (size u v 0 l 0) c) (hits? L (size u v 0 l 1) c)
-    ∙ ap (λ (n : ℕ). sideTo? L u v l c || at? L u v n c) (sym (zero-add l))
-    ∙ sym (any-up (λ n. at? L u v n c) 0 l)
-    ∙ ap (λ (n : ℕ). sideTo? L u v n c) (sym (add-one l))
-
 pub side-start : (L u v : ℕ) (ms : List ℕ) → Adds ms ms (λ c. sideTo? L u v 0 c)
 unfolding sideTo?
 side-start L u v ms = adds-none refl (λ k l t. t)
@@ -155,26 +143,20 @@ side-more L u v l x y e f p q r =
     adds-then (adds-then p q (λ k. refl)) r
     (λ k. ap₂ (λ (m n : ℕ). (sideTo? L u v l k || hits? L m k) || hits? L n k) e f ∙ side-suc L u v l k)
 
--- ---- each value of a list
+-- no shift from l on gives anything
+pub side-past : (L u v l : ℕ) {a b : List ℕ} → Odd L u → Odd L v → l ≤ L → u + 2 ^ L ≤ 2 ^ l * v
+    → Adds a b (λ c. sideTo? L u v l c) → Adds a b (λ c. sideTo? L u v (L + 1) c)
+side-past L u v l {a} {b} o p h q x =
+    record {
+      long = x .long;
+      marks = λ k i. x .marks k i ∙ ap (λ (t : Bool). markOf t (getD a k 0)) (side-stop L u v l (2 * k + 1) (o .0) (p .1) h q);
+    }
 
-any-snoc : (f : ℕ → Bool) (xs : List ℕ) (y : ℕ) → any f (xs ++ (y ∷ [])) ≡ (any f xs || f y)
-any-snoc f [] y = or-false (f y)
-  where
-    or-false : (b : Bool) → (b || false) ≡ b
-    or-false true = refl
-    or-false false = refl
-any-snoc f (x ∷ xs) y = ap (λ (b : Bool). f x || b) (any-snoc f xs y) ∙ sym (or-assoc (f x) (any f xs) (f y))
+-- ---- each value of a list
 
 pub with-start : (L v : ℕ) (xs ms : List ℕ) → Adds ms ms (λ c. with? L v (take 0 xs) c)
 unfolding with?
 with-start L v xs ms = adds-none refl (λ k l t. t)
-
-with-suc : (L v : ℕ) (xs : List ℕ) (i c : ℕ) → i < length xs → (with? L v (take i xs) c || oneOp? L v (getD xs i 0) c) ≡ with? L v (take (i + 1) xs) c
-unfolding with?
-with-suc L v xs i c h =
-    sym (any-snoc (λ u. oneOp? L v u c) (take i xs) (getD xs i 0))
-    ∙ ap (λ (l : List ℕ). with? L v l c) (sym (take-suc xs i 0 h))
-    ∙ ap (λ (n : ℕ). with? L v (take n xs) c) (sym (add-one i))
 
 pub with-more : (L v : ℕ) (xs : List ℕ) (i : ℕ) {a b c : List ℕ} → i < length xs
     → Adds a b (λ c. with? L v (take i xs) c) → Adds b c (λ c. oneOp? L v (getD xs i 0) c) → Adds a c (λ c. with? L v (take (i + 1) xs) c)
@@ -183,60 +165,6 @@ with-more L v xs i h p q = adds-then p q (λ k. with-suc L v xs i k h)
 -- a value below 2 ^ L is below 2 ^ 19
 pub small : (L n : ℕ) → L ≤ 19 → n < 2 ^ L → n < 2 ^ 19
 small L n h l = let m : 2 ^ L ≤ 2 ^ 19 = pow-mono h in omega arith
-
--- ---- values taken twice
-
-odd-part : (q f : ℕ) → q * f % 2 ≡ 1 → q % 2 ≡ 1
-odd-part q f o = go (q % 2) refl
-  where
-    go : (d : ℕ) → q % 2 ≡ d → q % 2 ≡ 1
-    go zero e =
-        let h : q ≡ 2 * (q / 2) = omega arith in
-        let p : q * f ≡ 2 * (q / 2 * f) = ap (λ (x : ℕ). x * f) h ∙ mul-assoc 2 (q / 2) f in
-        absurd (omega arith)
-    go (suc d) e = omega arith
-
-module _ (ms new : List ℕ) (c f : ℕ) (o : c % 2 ≡ 1) (b : c < 2 * length ms) (p : 0 < f) where
-  pub factor-at : c / f / 2 < length ms
-  factor-at = omega (arith, div-le-self c f)
-
-  pub factor-one : new ≡ set ms (c / f / 2) 1 → c % f ≡ 0 → Adds ms new (λ s. eqb (s * f) c)
-  factor-one e z =
-      let w : c / f * f ≡ c = omega (arith, div-add-mod' c f) in
-      let q : c / f % 2 ≡ 1 = odd-part (c / f) f (rw w o) in
-      let n : 2 * (c / f / 2) + 1 ≡ c / f = omega arith in
-      adds-one (c / f / 2) e factor-at (eq→eqb _ _ (ap (λ (x : ℕ). x * f) n ∙ w))
-      (λ k t.
-      let g : (2 * k + 1) * f ≡ c = eqb→eq _ _ t in
-      let d : 2 * k + 1 ≡ c / f = sym (mul-div-cancel (2 * k + 1) p) ∙ ap (λ (x : ℕ). x / f) g in
-      omega arith)
-
-  pub factor-none : new ≡ ms → (c % f ≡ 0 → ⊥) → Adds ms new (λ s. eqb (s * f) c)
-  factor-none e z =
-      adds-none e (λ k l t.
-      let g : (2 * k + 1) * f ≡ c = eqb→eq _ _ t in
-      z (ap (λ (x : ℕ). x % f) (sym g) ∙ mul-mod-left (2 * k + 1) f))
-
-pub twice-start : (c : ℕ) (ms : List ℕ) → Adds ms ms (λ s. twice? 0 c s)
-unfolding twice?
-twice-start c ms = adds-none refl (λ k l t. t)
-
-twice-suc : (c l s x y : ℕ) → x ≡ 2 ^ (l + 1) - 1 → y ≡ 2 ^ (l + 1) + 1 → ((twice? l c s || eqb (s * x) c) || eqb (s * y) c) ≡ twice? (l + 1) c s
-unfolding twice? factor?
-twice-suc c l s x y e f =
-    let g : l + 1 ≡ 1 + l = omega arith in
-    or-assoc (twice? l c s) (eqb (s * x) c) (eqb (s * y) c)
-    ∙ ap₂ (λ (m n : ℕ). twice? l c s || (eqb (s * m) c || eqb (s * n) c)) e f
-    ∙ ap (λ (n : ℕ). twice? l c s || factor? c n s) g
-    ∙ sym (any-up (λ n. factor? c n s) 1 l)
-    ∙ ap (λ (n : ℕ). twice? n c s) (sym (add-one l))
-
-pub twice-more : (c l : ℕ) {ms a b d : List ℕ} (x y : ℕ) → x ≡ 2 ^ (l + 1) - 1 → y ≡ 2 ^ (l + 1) + 1
-    → Adds ms a (λ s. twice? l c s) → Adds a b (λ s. eqb (s * x) c) → Adds b d (λ s. eqb (s * y) c) → Adds ms d (λ s. twice? (l + 1) c s)
-twice-more c l x y e f p q r = adds-then (adds-then p q (λ k. refl)) r (λ k. twice-suc c l k x y e f)
-
-pub power-two : (l : ℕ) → 2 ≤ 2 ^ (l + 1)
-power-two l = pow-mono {i = 1} {j = l + 1} (omega arith)
 
 pub power-small : (l : ℕ) → l ≤ 19 → 2 ^ l ≤ 2 ^ 19
 power-small l h = pow-mono {i = l} {j = 19} h

@@ -1,18 +1,24 @@
 -- One operation on two values is a hit on one of the two sides; and with one value more a list reaches what it did, and what that value makes
 -- with each of the list's values and with itself. Assumes nothing.
-use mathlib.Core.Path.{_≡_, refl, _∙_, subst}
-use mathlib.Core.Bool.{Bool, true, false, _||_}
+use mathlib.Core.Path.{_≡_, refl, sym, ap, _∙_, subst}
+use mathlib.Core.Bool.{Bool, true, false, _||_, or-false, or-assoc}
 use mathlib.Core.List.{List, [], _∷_, _++_, List·Memᴰ, List·Memᴰ·head, List·Memᴰ·append-cases, List·Memᴰ·eq-of-singleton, Memᴰ·append-left, Memᴰ·append-right}
 use mathlib.Core.Logic.{_⊎_, inl, inr, ⊎-elim}
-use Prim.Native.Nat.{ℕ, zero, suc, _+_, _≤_, _<_}
+use Prim.Native.Nat.{ℕ, zero, suc, _+_, _-_, _*_, _/_, _%_, _^_, _≤_, _<_}
 use native.Mathlib.Omega.{arith}
-use native.Mathlib.Decide.{ℕ-discrete}
+use native.Mathlib.Decide.{ℕ-discrete, decLe}
+use native.Mathlib.Nat.{zero-add, pow-succ', mul-assoc, mul-le-mul-right}
+use native.Mathlib.Numerals.{add-one}
 use lib.Dec.{T}
-use Rattle.meaning.specs.Basics.{any, upFrom, zeros}
+use lib.ListN.{length, getD, take}
+use lib.Pow.{pow-mono}
+use lib.Seq.{take-suc}
+use Rattle.meaning.specs.Basics.{gap, any, upFrom, zeros}
 use Rattle.meaning.specs.Operation.{size, Outcome, Valid, Gives}
 use Rattle.meaning.specs.Distance.{oneOp?, reach?}
 use Rattle.laws.proofs.Tests.{bool-ext, any-in, in-any, either-of, of-left, of-right, in-up, up-in}
 use Rattle.laws.proofs.Operations.{outcome-of-test, test-of-outcome}
+use Rattle.laws.proofs.Zeros.{zeros-of-odd}
 use Rattle.laws.proofs.Inverse.{valid-swap, gives-swap}
 use Rattle.laws.proofs.Reach.{one-is, reach-is, reached-within}
 use Rattle.reach.specs.Sides.{hits?, at?, sideTo?, with?}
@@ -48,6 +54,65 @@ hit-outcome L n c t = outcome-of-test L n (zeros n) c t
 pub outcome-hit : (L n r c : ℕ) → Outcome L n r c → T (hits? L n c)
 unfolding hits?
 outcome-hit L n r c k = test-of-outcome L n (zeros n) c (subst (λ z. Outcome L n z c) (k .shift) k)
+
+-- what a shift gives is below 2 ^ L
+at-below : (L u v l c : ℕ) → T (at? L u v l c) → c < 2 ^ L
+unfolding at?
+at-below L u v l c t =
+    ⊎-elim (λ p. hit-outcome L (size u v 0 l 0) c p .below) (λ p. hit-outcome L (size u v 0 l 1) c p .below)
+    (either-of (hits? L (size u v 0 l 0) c) (hits? L (size u v 0 l 1) c) t)
+
+-- an odd number is its own odd part
+hit-odd : (L n c : ℕ) → n % 2 ≡ 1 → T (hits? L n c) → c ≡ n
+hit-odd L n c o t =
+    let k = hit-outcome L n c t in
+    k .value ∙ ap (λ (z : ℕ). n / 2 ^ z) (zeros-of-odd n o) ∙ omega arith
+
+-- ---- the shifts that give nothing
+
+-- v shifted by one place or more, so far that it is not below u and a bound together: what comes is not below the bound
+far-even : (L u w h b c : ℕ) → w ≡ 2 * h → u % 2 ≡ 1 → u + b ≤ w → T (hits? L (2 ^ 0 * u + w) c || hits? L (gap (2 ^ 0 * u) w) c) → b ≤ c
+far-even L u w h b c e o q t =
+    ⊎-elim
+    (λ p. let m = hit-odd L (2 ^ 0 * u + w) c (omega arith) p in omega arith)
+    (λ p.
+    let d : gap (2 ^ 0 * u) w ≡ w - u = omega arith in
+    let m = hit-odd L (gap (2 ^ 0 * u) w) c (rw d (odd-rest (w - u) u h (omega arith) o)) p in omega arith)
+    (either-of (hits? L (2 ^ 0 * u + w) c) (hits? L (gap (2 ^ 0 * u) w) c) t)
+  where
+    odd-rest : (d x y : ℕ) → d + x ≡ 2 * y → x % 2 ≡ 1 → d % 2 ≡ 1
+    odd-rest d x y e o = omega arith
+
+far-at : (L u v l b c : ℕ) → u % 2 ≡ 1 → 1 ≤ l → u + b ≤ 2 ^ l * v → T (at? L u v l c) → b ≤ c
+unfolding at?
+far-at L u v zero b c o h q t = absurd (omega arith)
+far-at L u v (suc l) b c o h q t =
+    far-even L u (2 ^ suc l * v) (2 ^ l * v) b c (ap (λ (x : ℕ). x * v) (pow-succ' 2 l) ∙ mul-assoc 2 (2 ^ l) v) o q t
+
+-- so from a shift that passes 2 ^ L on no shift gives anything
+pub side-stop : (L u v l c : ℕ) → u % 2 ≡ 1 → v < 2 ^ L → l ≤ L → u + 2 ^ L ≤ 2 ^ l * v → sideTo? L u v l c ≡ sideTo? L u v (L + 1) c
+unfolding sideTo?
+side-stop L u v l c o low h q = bool-ext (sideTo? L u v l c) (sideTo? L u v (L + 1) c) there back
+  where
+    one : (l : ℕ) → u + 2 ^ L ≤ 2 ^ l * v → 1 ≤ l
+    one zero q = absurd (omega arith)
+    one (suc l) q = omega arith
+
+    there : T (sideTo? L u v l c) → T (sideTo? L u v (L + 1) c)
+    there t =
+        let (j, i, p) = any-in (λ j. at? L u v j c) (upFrom 0 l) t in
+        let g = up-in 0 l j i in
+        in-any (λ j. at? L u v j c) (in-up 0 (L + 1) j (omega arith) (omega arith)) p
+
+    back : T (sideTo? L u v (L + 1) c) → T (sideTo? L u v l c)
+    back t = let (j, i, p) = any-in (λ j. at? L u v j c) (upFrom 0 (L + 1)) t in go j p (decLe l j)
+      where
+        go : (j : ℕ) → T (at? L u v j c) → Dec (l ≤ j) → T (sideTo? L u v l c)
+        go j p (yes g) =
+            let m : 2 ^ l * v ≤ 2 ^ j * v = mul-le-mul-right v (pow-mono g) in
+            let b = far-at L u v j (2 ^ L) c o (omega (arith, one l q)) (omega arith) p in
+            absurd (omega (arith, at-below L u v j c p))
+        go j p (no g) = in-any (λ j. at? L u v j c) (in-up 0 l j (omega arith) (omega arith)) p
 
 hit-gives : (L u v l s c : ℕ) → l ≤ L → s ≤ 1 → T (hits? L (size u v 0 l s) c) → Gives L u v c
 hit-gives L u v l s c h k t =
@@ -161,3 +226,26 @@ reach-add L vals v c = bool-ext (reach? L (vals ++ (v ∷ [])) c) (reach? L vals
             of-right (reach? L vals c) _ (of-right (with? L v vals c) _
             (subst (λ z. T (oneOp? L z v c)) (List·Memᴰ·eq-of-singleton i)
             (subst (λ z. T (oneOp? L a z c)) (List·Memᴰ·eq-of-singleton j) w)))
+
+-- ---- the parts of a loop
+
+-- one shift more
+pub side-suc : (L u v l c : ℕ) → ((sideTo? L u v l c || hits? L (size u v 0 l 0) c) || hits? L (size u v 0 l 1) c) ≡ sideTo? L u v (l + 1) c
+unfolding sideTo? at?
+side-suc L u v l c =
+    or-assoc (sideTo? L u v l c) (hits? L (size u v 0 l 0) c) (hits? L (size u v 0 l 1) c)
+    ∙ ap (λ (n : ℕ). sideTo? L u v l c || at? L u v n c) (sym (zero-add l))
+    ∙ sym (any-up (λ n. at? L u v n c) 0 l)
+    ∙ ap (λ (n : ℕ). sideTo? L u v n c) (sym (add-one l))
+
+any-snoc : (f : ℕ → Bool) (xs : List ℕ) (y : ℕ) → any f (xs ++ (y ∷ [])) ≡ (any f xs || f y)
+any-snoc f [] y = or-false (f y)
+any-snoc f (x ∷ xs) y = ap (λ (b : Bool). f x || b) (any-snoc f xs y) ∙ sym (or-assoc (f x) (any f xs) (f y))
+
+-- one value more
+pub with-suc : (L v : ℕ) (xs : List ℕ) (i c : ℕ) → i < length xs → (with? L v (take i xs) c || oneOp? L v (getD xs i 0) c) ≡ with? L v (take (i + 1) xs) c
+unfolding with?
+with-suc L v xs i c h =
+    sym (any-snoc (λ u. oneOp? L v u c) (take i xs) (getD xs i 0))
+    ∙ ap (λ (l : List ℕ). with? L v l c) (sym (take-suc xs i 0 h))
+    ∙ ap (λ (n : ℕ). with? L v (take n xs) c) (sym (add-one i))

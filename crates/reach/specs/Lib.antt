@@ -1,4 +1,3 @@
--- What the maps hold, and the choice that they give.
+-- What the map holds.
 pub mod Sides
 pub mod Marks
-pub mod Choices

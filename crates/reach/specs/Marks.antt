@@ -32,9 +32,13 @@ marked ms c = eqb (getD ms (c / 2) 0) 1
 abbrev pub Wide : ℕ → List ℕ → Type 0
 Wide L ms = (L ≤ 19) × (2 ^ L ≤ 2 * length ms)
 
+-- odd, and below 2 ^ L
+abbrev pub Odd : ℕ → ℕ → Type 0
+Odd L v = (v % 2 ≡ 1) × (v < 2 ^ L)
+
 -- the first n values are odd and below 2 ^ L
 abbrev pub Ready : ℕ → List ℕ → ℕ → Type 0
-Ready L vals n = (n ≤ length vals) × ((i : ℕ) → i < n → (getD vals i 0 % 2 ≡ 1) × (getD vals i 0 < 2 ^ L))
+Ready L vals n = (n ≤ length vals) × ((i : ℕ) → i < n → Odd L (getD vals i 0))
 
 -- the first n values are ready, and the map holds what one operation on them reaches
 pub record State (L : ℕ) (map vals : List ℕ) (n : ℕ) : Type 0 where

@@ -1,108 +1,41 @@
--- `beyond_zero` meets its contract: the filled map says what one operation reaches, and `served` what two do. Assumes nothing.
-use mathlib.Core.Path.{_≡_, sym, ap, subst, _∙_}
-use mathlib.Core.Bool.{true, false}
-use mathlib.Core.List.{List, _∷_}
-use Prim.Native.Nat.{ℕ}
+-- `beyond_zero` meets its contract: each map of zeros has a byte for each odd number, and is that of no value. Assumes nothing.
+use native.Mathlib.Omega.{arith}
 use borrow.Author.Needs.{needs}
-use lib.ListN.{length}
-use lib.Seq.{take-length}
-use Rattle.meaning.specs.declared.Far.the-variants.{One, Two, Beyond}
-use Rattle.meaning.specs.Basics.{any, has}
-use Rattle.meaning.specs.Distance.{reach?, serves?, candidates, distance}
-use Rattle.reach.proofs.Marks.{start-65536, reached-is}
+use Rattle.reach.proofs.Marks.{start-of}
 use Rattle.distance.proofs.beyond_zero.Statement.{statement}
 use Rattle.distance.proofs.beyond_zero.Tie as tie
 
--- the three answers for a value that is not in the list
-module _ (L : ℕ) (vals : List ℕ) (c : ℕ) (away : has vals c ≡ false) where
-  one : reach? L vals c ≡ true → One ≡ distance L vals c
-  unfolding distance
-  one e = rw (away, e)
+slice-aggregate-beyond-by : tie.Need-slice-aggregate-beyond-by
+slice-aggregate-beyond-by c = search needs
 
-  two : reach? L vals c ≡ false → any (serves? L vals c) (1 ∷ candidates L) ≡ true → Two ≡ distance L vals c
-  unfolding distance
-  two e f = rw (away, e, f)
-
-  beyond : reach? L vals c ≡ false → any (serves? L vals c) (1 ∷ candidates L) ≡ false → Beyond ≡ distance L vals c
-  unfolding distance
-  beyond e f = rw (away, e, f)
-
--- what the calls say of the whole list
-one-is : (c : tie.After-reached) → let a = c .before .before .before .before .before .before .args in
-    c .reached .result ≡ reach? (a .top) (a .vals .now) (a .c)
-one-is c =
-    let f = c .before .before .before in
-    let st = f .before .before .before in
+beyond-by-requires : tie.Need-beyond-by-requires
+beyond-by-requires c κs =
+    let st = c .before .before .before in
     let a = st .args in
-    c .reached .ensures
-    ∙ reached-is (a .top) (f .fill .last .0) (a .vals .now) (length (a .vals .now)) (a .c) (f .fill .ensures) (st .pre .2) (st .pre .3)
-    ∙ ap (λ (xs : List ℕ). reach? (a .top) xs (a .c)) (take-length (a .vals .now))
-
-two-is : (c : tie.After-served) → let a = c .before .before .before .before .before .before .before .before .before .args in
-    c .served .result ≡ any (serves? (a .top) (a .vals .now) (a .c)) (1 ∷ candidates (a .top))
-two-is c =
-    let a = c .before .before .before .before .before .before .before .before .before .args in
-    subst (λ (xs : List ℕ). c .served .result ≡ any (serves? (a .top) xs (a .c)) (1 ∷ candidates (a .top))) (take-length (a .vals .now)) (c .served .ensures)
-
-slice-aggregate-fill : tie.Need-slice-aggregate-fill
-slice-aggregate-fill c = search needs
-
-fill-requires : tie.Need-fill-requires
-fill-requires c κs =
-    let st = c .before .before in
-    (start-65536 (st .args .top) (st .args .vals .now) (st .pre .0), st .pre .1)
-
-slice-aggregate-reached : tie.Need-slice-aggregate-reached
-slice-aggregate-reached c = search needs
-
-reached-requires : tie.Need-reached-requires
-reached-requires c κs = search needs
+    (start-of (a .top) 13 4096 (a .vals .now) (omega (arith, c .before .if1 .taken)) (omega arith) (omega arith), st .pre .1, st .pre .2, st .pre .3)
 
 returns : tie.Need-returns
-returns c =
-    let st = c .before .before .before .before .before .before .before in
+returns c = search needs
+
+slice-aggregate-beyond-by-2 : tie.Need-slice-aggregate-beyond-by-2
+slice-aggregate-beyond-by-2 c = search needs
+
+beyond-by-requires-2 : tie.Need-beyond-by-requires-2
+beyond-by-requires-2 c κs =
+    let st = c .before .before .before in
     let a = st .args in
-    one (a .top) (a .vals .now) (a .c) (st .pre .4) (sym (one-is (c .before)) ∙ c .if1 .taken)
-
-slice-aggregate-served : tie.Need-slice-aggregate-served
-slice-aggregate-served c = search needs
-
-served-requires : tie.Need-served-requires
-served-requires c κs =
-    let f = c .before .before .before .before .before in
-    let st = f .before .before .before in
-    let a = st .args in (
-      f .fill .ensures,
-      st .pre .0,
-      st .pre .2,
-      st .pre .3,
-      ap (λ (xs : List ℕ). reach? (a .top) xs (a .c)) (take-length (a .vals .now)) ∙ sym (one-is (c .before .before)) ∙ c .before .if1 .left,
-    )
+    (start-of (a .top) 17 65536 (a .vals .now) (st .pre .0) (omega arith) (omega arith), st .pre .1, st .pre .2, st .pre .3)
 
 returns-2 : tie.Need-returns-2
-returns-2 c =
-    let e = c .before .before .before in
-    let st = e .before .before .before .before .before .before .before in
-    let a = st .args in
-    two (a .top) (a .vals .now) (a .c) (st .pre .4) (sym (one-is (e .before)) ∙ e .if1 .left) (sym (two-is (c .before)) ∙ c .if2 .taken)
-
-returns-3 : tie.Need-returns-3
-returns-3 c =
-    let e = c .before .before .before in
-    let st = e .before .before .before .before .before .before .before in
-    let a = st .args in
-    beyond (a .top) (a .vals .now) (a .c) (st .pre .4) (sym (one-is (e .before)) ∙ e .if1 .left) (sym (two-is (c .before)) ∙ c .if2 .left)
+returns-2 c = search needs
 
 pub beyond-zero-spec : {M : Type 1} → statement M
 beyond-zero-spec =
     tie.close
     (tie.spec
-    slice-aggregate-fill
-    fill-requires
-    slice-aggregate-reached
-    reached-requires
+    slice-aggregate-beyond-by
+    beyond-by-requires
     returns
-    slice-aggregate-served
-    served-requires
-    returns-2
-    returns-3)
+    slice-aggregate-beyond-by-2
+    beyond-by-requires-2
+    returns-2)

@@ -68,8 +68,7 @@ beyond-zero-requires c κs =
     let m : 2 ^ a .b ≤ 2 ^ (a .b + 1) = pow-mono {i = a .b} {j = a .b + 1} (omega arith) in (
       omega (arith, q .bits),
       ready (a .b) (a .vals .now) (a .c) q,
-      q .target .0,
-      omega (arith, q .target .1),
+      (q .target .0, omega (arith, q .target .1)),
       sym (c .before .listed .ensures) ∙ c .if1 .left,
     )
 

@@ -29,7 +29,7 @@ shared-slice-read-add c = search needs
 add-requires : tie.Need-add-requires Inv-loop μ-loop
 add-requires c κs =
     let s = c .before .before .before in
-    (s .loop .inv .1, s .before .before .before .pre .1 .1 (s .loop .n) (c .before .before .loop-test .taken) .1)
+    (s .loop .inv .1, s .before .before .before .pre .1 .1 (s .loop .n) (c .before .before .loop-test .taken))
 
 add-n : tie.Need-add-n Inv-loop μ-loop
 add-n c = search needs

@@ -32,7 +32,7 @@ opened : (c : tie.After-start Inv-loop μ-loop) → let a = c .before .before .b
 opened c = started-open (c .start .ensures .0) (c .start .ensures .1) (c .before .before .before .before .pre .6)
 
 start-requires : tie.Need-start-requires Inv-loop μ-loop
-start-requires c κs = let f = c .before .before .before in (f .pre .0, f .pre .1, f .pre .2)
+start-requires c κs = let f = c .before .before .before in (f .pre .0, f .pre .2)
 
 loop-holds : tie.Need-loop-holds Inv-loop μ-loop
 loop-holds c = let d = c .before .before in (omega arith, turned-start (d .start .ensures .0) (opened d), refl, refl)

@@ -9,9 +9,8 @@ use lib.ListN.{length, getD, drop, drop-of-length-le}
 use Rattle.meaning.specs.Generator.{ruleB}
 use Rattle.constants.specs.Held.{kept}
 use Rattle.ready.specs.Listed.{listed}
-use Rattle.reach.proofs.Choosing.{ceiling}
-use Rattle.reach.proofs.RuleB.{b-empty}
-use Rattle.generator.proofs.Laws.{kept-in, kept-next, kept-end, picked-at, picked-none}
+use Rattle.serving.proofs.RuleB.{b-empty}
+use Rattle.generator.proofs.Laws.{kept-in, kept-next, kept-end, picked-at, picked-none, ceiling}
 use Rattle.generator.proofs.pick.Statement.{statement}
 use Rattle.generator.proofs.pick.Tie as tie
 
@@ -55,7 +54,7 @@ choose-requires c κs =
     let t = c .before .before .before .before in
     let st = t .before .before .before in
     let o = st .pre .3 _ (member t) .odd in
-    (st .pre .0, st .pre .1, o .0, o .1, st .pre .4 _ (member t))
+    (st .pre .0, o, st .pre .4 _ (member t))
 
 enum-known-choice : tie.Need-enum-known-choice Inv-loop μ-loop
 enum-known-choice c = search needs

@@ -1,13 +1,11 @@
--- `start` meets its contract: a map of zeros holds what nothing ready reaches, and `add` makes it hold what 1 reaches. Assumes nothing.
-use mathlib.Core.Path.{ap, _∙_, subst⁻¹}
-use mathlib.Core.List.{List}
-use Prim.Native.Nat.{ℕ, _^_, _≤_}
+-- `start` meets its contract: the map holds what nothing ready reaches, and `add` makes it hold what 1 reaches. Assumes nothing.
+use mathlib.Core.Path.{refl}
+use mathlib.Core.List.{[]}
+use Prim.Native.Nat.{_^_, _≤_}
 use native.Mathlib.Omega.{arith}
 use borrow.Author.Needs.{needs}
-use lib.ListN.{length}
 use lib.Pow.{pow-mono}
-use Rattle.reach.specs.Marks.{State}
-use Rattle.reach.proofs.Marks.{zeros-long, start-65536}
+use Rattle.reach.proofs.Marks.{none-ready}
 use Rattle.generator.proofs.Laws.{start-state}
 use Rattle.generator.proofs.start.Statement.{statement}
 use Rattle.generator.proofs.start.Tie as tie
@@ -18,12 +16,8 @@ start-requires c κs = search needs
 add-requires : tie.Need-add-requires
 add-requires c κs =
     let st = c .before .before .before .before .before .before in
-    let p = st .pre in
-    let m : 2 ≤ 2 ^ st .args .top = pow-mono {i = 1} {j = st .args .top} (p .0) in (
-      subst⁻¹ (λ (map : List ℕ). State (st .args .top) map (c .before .before .before .before .start .result .values) 0) (p .2)
-          (start-65536 (st .args .top) _ (p .1)),
-      omega arith,
-    )
+    let m : 2 ≤ 2 ^ st .args .top = pow-mono {i = 1} {j = st .args .top} (st .pre .0) in
+    (none-ready (st .args .top) (st .args .map .now) [] _ (st .pre .1), (refl, omega arith))
 
 same-length : tie.Need-same-length
 same-length c = search needs
@@ -32,10 +26,11 @@ returns : tie.Need-returns
 returns c =
     let a = c .before .before in
     let t = a .before .before .before .before .before in
-    let st = t .before .before in (
+    let st = t .before .before in
+    let w = st .pre .1 .wide in (
       t .start .ensures,
-      start-state (st .args .top) (a .add .last .0) (t .start .result) (st .pre .0) (st .pre .1) (t .start .ensures)
-          (a .add .ensures .0 ∙ ap length (st .pre .2) ∙ zeros-long) (a .add .ensures .1),
+      start-state (st .args .top) (a .add .last .0) (t .start .result) (st .pre .0) (t .start .ensures)
+          (w .0, omega (arith, w .1, a .add .ensures .0)) (a .add .ensures .1),
     )
 
 pub start-spec : {M : Type 1} → statement M

@@ -1,10 +1,9 @@
 -- `add` meets its contract: what one operation reaches with v is what it reached, what v makes with each ready value, and what it makes with
 -- itself. Assumes nothing.
 use mathlib.Core.Path.{_∙_}
-use native.Mathlib.Omega.{arith}
 use borrow.Author.Needs.{needs}
 use lib.ListN.{take}
-use Rattle.reach.proofs.Marks.{small, reach-more}
+use Rattle.reach.proofs.Marks.{reach-more}
 use Rattle.reach.proofs.add.Statement.{statement}
 use Rattle.reach.proofs.add.Tie as tie
 
@@ -12,14 +11,10 @@ with-each-requires : tie.Need-with-each-requires
 with-each-requires c κs =
     let st = c .before .before .before in
     let s = st .pre .0 in
-    (s .wide, s .values, small (st .args .top) (st .args .v) (s .wide .0) (st .pre .1))
+    (s .wide, s .values, st .pre .1)
 
 side-requires : tie.Need-side-requires
-side-requires c κs =
-    let st = c .before .before .before .before .before .before .before in
-    let w = st .pre .0 .wide in
-    let h = small (st .args .top) (st .args .v) (w .0) (st .pre .1) in
-    ((w .0, omega (arith, w .1, c .before .before .before .with-each .ensures .long)), h, h)
+side-requires c κs = search needs
 
 same-length : tie.Need-same-length
 same-length c = search needs

@@ -1,34 +1,61 @@
 -- `side` meets its contract. The loop's invariant: the results with shifts below l are marked, and nothing else is new. Assumes nothing.
 use mathlib.Core.Path.{_≡_, refl, subst}
-use Prim.Native.Nat.{ℕ, _+_, _-_, _≤_}
+use Prim.Native.Nat.{ℕ, _+_, _-_, _^_, _≤_}
 use native.Mathlib.Omega.{arith}
 use borrow.Author.Needs.{needs}
 use Rattle.reach.specs.Sides.{sideTo?}
 use Rattle.reach.specs.Marks.{Adds}
-use Rattle.reach.proofs.Marks.{side-start, side-more}
+use Rattle.reach.proofs.Marks.{small, power-small, side-start, side-more, side-past}
 use Rattle.reach.proofs.side.Statement.{statement}
 use Rattle.reach.proofs.side.Tie as tie
 
 abbrev Inv-loop : tie.InvT-loop
-Inv-loop map₀ top u v a b l₀ map l =
-    (l ≤ top + 1) × (a ≡ u) × (b ≡ v) × Adds map₀ map (λ c. sideTo? top u v l c)
+Inv-loop map₀ top u v a b far l₀ map l =
+    (l ≤ top + 1) × (a ≡ u) × (b ≡ v) × (far ≡ u + 2 ^ top) × Adds map₀ map (λ c. sideTo? top u v l c)
 
 abbrev μ-loop : tie.MeasureT-loop
-μ-loop map₀ top u v a b l₀ map l = top + 1 - l
+μ-loop map₀ top u v a b far l₀ map l = top + 1 - l
+
+power-requires : tie.Need-power-requires Inv-loop μ-loop
+power-requires c κs = search needs
+
+add-far : tie.Need-add-far Inv-loop μ-loop
+add-far c =
+    let st = c .before .before in
+    record { fits = omega (arith, c .power .ensures, power-small (st .args .top) (st .pre .0 .0), st .pre .1) }
 
 loop-holds : tie.Need-loop-holds Inv-loop μ-loop
 loop-holds c =
-    let a = c .before .args in
-    (omega arith, refl, refl, side-start (a .top) (a .u) (a .v) (a .map .now))
+    let a = c .before .before .args in
+    (omega arith, refl, refl, omega (arith, c .power .ensures), side-start (a .top) (a .u) (a .v) (a .map .now))
 
-size-of-requires : tie.Need-size-of-requires Inv-loop μ-loop
-size-of-requires c κs = search needs
+shifted-requires : tie.Need-shifted-requires Inv-loop μ-loop
+shifted-requires c κs =
+    let s = c .before in
+    let st = s .before .before .before in
+    (small (st .args .top) (st .args .v) (st .pre .0 .0) (st .pre .2 .1), omega (arith, c .loop-test .taken, st .pre .0 .0))
+
+same-length : tie.Need-same-length Inv-loop μ-loop
+same-length c = c .before .before .before .loop .inv .4 .long
+
+returns : tie.Need-returns Inv-loop μ-loop
+returns c =
+    let s = c .before .before .before in
+    let st = s .before .before .before in
+    side-past (st .args .top) (st .args .u) (st .args .v) (s .loop .l) (st .pre .1) (st .pre .2) (omega (arith, c .before .before .loop-test .taken))
+    (omega (arith, c .if1 .taken, c .before .shifted .ensures, s .loop .inv .3)) (s .loop .inv .4)
+
+add-mark : tie.Need-add-mark Inv-loop μ-loop
+add-mark c =
+    let s = c .before .before .before .before in
+    let st = s .before .before .before in
+    record { fits = omega (arith, c .before .if1 .left, s .loop .inv .3, power-small (st .args .top) (st .pre .0 .0), st .pre .1) }
 
 mark-requires : tie.Need-mark-requires Inv-loop μ-loop
 mark-requires c κs = search needs
 
-size-of-requires-2 : tie.Need-size-of-requires-2 Inv-loop μ-loop
-size-of-requires-2 c κs = search needs
+apart-requires : tie.Need-apart-requires Inv-loop μ-loop
+apart-requires c κs = search needs
 
 mark-requires-2 : tie.Need-mark-requires-2 Inv-loop μ-loop
 mark-requires-2 c κs = search needs
@@ -43,24 +70,26 @@ loop-again : tie.Need-loop-again Inv-loop μ-loop
 loop-again c =
     let two = c .before .before in
     let one = two .before .before .before .before .before in
-    let at = one .before .before .before .before in
-    let a = at .before .before .args in (
-      omega (arith, at),
+    let sh = one .before .before .before in
+    let s = sh .before .before in
+    let a = s .before .before .before .args in (
+      omega (arith, sh .before .loop-test .taken),
       refl,
       refl,
-      side-more (a .top) (a .u) (a .v) (at .loop .l) (one .before .size-of .result) (two .before .size-of2 .result)
-          (one .before .size-of .ensures) (two .before .size-of2 .ensures)
-          (at .loop .inv .3) (one .mark .ensures) (two .mark2 .ensures),
+      s .loop .inv .3,
+      side-more (a .top) (a .u) (a .v) (s .loop .l) (a .u + sh .shifted .result) (two .before .apart .result)
+          (omega (arith, sh .shifted .ensures)) (omega (arith, sh .shifted .ensures, two .before .apart .ensures))
+          (s .loop .inv .4) (one .mark .ensures) (two .mark2 .ensures),
     )
 
-same-length : tie.Need-same-length Inv-loop μ-loop
-same-length c = c .before .loop .inv .3 .long
+same-length-2 : tie.Need-same-length-2 Inv-loop μ-loop
+same-length-2 c = c .before .loop .inv .4 .long
 
-returns : tie.Need-returns Inv-loop μ-loop
-returns c =
-    let a = c .before .before .before .args in
+returns-2 : tie.Need-returns-2 Inv-loop μ-loop
+returns-2 c =
+    let a = c .before .before .before .before .args in
     let e : c .before .loop .l ≡ a .top + 1 = omega arith in
-    subst (λ (l : ℕ). Adds (a .map .now) (c .before .loop .map) (λ c. sideTo? (a .top) (a .u) (a .v) l c)) e (c .before .loop .inv .3)
+    subst (λ (l : ℕ). Adds (a .map .now) (c .before .loop .map) (λ c. sideTo? (a .top) (a .u) (a .v) l c)) e (c .before .loop .inv .4)
 
 pub side-spec : {M : Type 1} → statement M
 side-spec =
@@ -68,13 +97,18 @@ side-spec =
     (tie.spec
     Inv-loop
     μ-loop
+    power-requires
+    add-far
     loop-holds
-    size-of-requires
+    shifted-requires
+    same-length
+    returns
+    add-mark
     mark-requires
-    size-of-requires-2
+    apart-requires
     mark-requires-2
     add-l
     loop-less
     loop-again
-    same-length
-    returns)
+    same-length-2
+    returns-2)

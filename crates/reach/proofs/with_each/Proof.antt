@@ -1,12 +1,12 @@
 -- `with_each` meets its contract. The loop's invariant: the results with the first i values are marked, and nothing else is new. Assumes nothing.
 use mathlib.Core.Path.{_≡_, subst}
-use Prim.Native.Nat.{ℕ, _-_, _≤_, _<_}
+use Prim.Native.Nat.{ℕ, _-_, _≤_}
 use native.Mathlib.Omega.{arith}
 use borrow.Author.Needs.{needs}
-use lib.ListN.{length, take, getD}
+use lib.ListN.{length, take}
 use Rattle.reach.specs.Sides.{with?}
 use Rattle.reach.specs.Marks.{Adds}
-use Rattle.reach.proofs.Marks.{with-start, with-more, small}
+use Rattle.reach.proofs.Marks.{with-start, with-more}
 use Rattle.reach.proofs.with_each.Statement.{statement}
 use Rattle.reach.proofs.with_each.Tie as tie
 
@@ -32,10 +32,8 @@ pair-requires : tie.Need-pair-requires Inv-loop μ-loop
 pair-requires c κs =
     let at = c .before .before .before in
     let st = at .before .before .before in
-    let a = st .args in
-    let u : getD (a .ready .now) (at .loop .i) 0 < 524288 = small (a .top) _ (st .pre .0 .0) (st .pre .1 .1 (at .loop .i) (omega arith) .1) in
-    let e : length (at .loop .map) ≡ length (a .map .now) = at .loop .inv .1 .long in
-    ((st .pre .0 .0, omega (arith, st .pre .0 .1)), st .pre .2, u)
+    let e : length (at .loop .map) ≡ length (st .args .map .now) = at .loop .inv .1 .long in
+    ((st .pre .0 .0, omega (arith, st .pre .0 .1)), st .pre .2, st .pre .1 .1 (at .loop .i) (omega arith))
 
 add-i : tie.Need-add-i Inv-loop μ-loop
 add-i c = search needs
