@@ -1,112 +1,102 @@
-// Answers cases for the library's calls, so that another program's answers can be held to them.
-// A case is two little-endian 32-bit words, its kind and the number n of its words, and then the n words.
-// Each answer is a line of decimal numbers.
-mod draws;
+// Answers cases for the library's calls, one a line, so that anyone can hold them to answers of their own.
+// tests/README.md has the lines' format.
+mod case;
+mod escape;
 mod graphs;
 mod input;
 mod jobs;
 mod leaves;
+mod lists;
+mod names;
 mod print;
 
+use case::LONGEST;
 use libc::STDIN_FILENO;
 
-// The calls on single numbers and one row. A kind that is not known answers an empty line.
-fn leaf(kind: u32, words: &[u32]) {
-    if kind == 1 {
-        leaves::apart(words);
-    }
-    if kind == 3 {
-        leaves::digits(words);
-    }
-    if kind == 4 {
-        leaves::operate(words);
-    }
-    if kind == 5 {
-        leaves::row(words);
-    }
-    if kind == 6 {
-        leaves::bits(words);
-    }
+fn line(line: &[u8], space: &mut [u32], out: &mut [u8]) {
+    let n = case::of_line(line, space, out);
+    print::line(out, n);
 }
 
-// Kinds 1 to 6 are the leaves, 7 to 10 the calls on a graph, 11 is distance, 12 the generator and 13 a job.
-fn answer(kind: u32, words: &[u32], targets: &mut [i32], wide: &mut [i64], narrow: &mut [u32]) {
-    if kind == 2 {
-        leaves::admit(words, targets);
-        return;
+// Answers every whole line, and says where the rest begins.
+fn whole_lines(bytes: &[u8], space: &mut [u32], out: &mut [u8]) -> usize {
+    let mut from = 0;
+    while from < bytes.len() {
+        let end = input::find(bytes, from, b'\n');
+        if bytes.len() <= end {
+            return from;
+        }
+        line(&bytes[from..end], space, out);
+        from = end + 1;
     }
-    if kind < 7 {
-        leaf(kind, words);
-        return;
-    }
-    if kind == 11 {
-        draws::distance(words);
-        return;
-    }
-    if kind == 12 {
-        draws::generate(words, targets, narrow);
-        return;
-    }
-    if kind == 13 {
-        jobs::answer(words);
-        return;
-    }
-    graphs::answer(kind, words, targets, wide, narrow);
+    from
 }
 
-// Reads a whole part of the input, and says whether it was there.
-fn read(bytes: &mut [u8], n: usize) -> bool {
-    if bytes.len() < n {
-        return false;
+// Moves the bytes from a place to another to the front. Of a line that is too long already, enough to see that is kept.
+fn keep(bytes: &mut [u8], from: usize, to: usize) -> usize {
+    let mut k = 0;
+    let mut next = from;
+    while next < to {
+        if LONGEST < k {
+            return k;
+        }
+        if bytes.len() <= next {
+            return k;
+        }
+        bytes[k] = bytes[next];
+        k += 1;
+        next += 1;
     }
-    let got = io::read_full(STDIN_FILENO, &mut bytes[..n]);
-    n <= got
+    k
 }
 
-// Answers one case, and says whether there was one.
-fn one(
-    bytes: &mut [u8],
-    words: &mut [u32],
-    targets: &mut [i32],
-    wide: &mut [i64],
-    narrow: &mut [u32],
-) -> bool {
-    if !read(bytes, 8) {
-        return false;
+// One read behind the bytes that are held, so that a line that is typed is answered at once: the end of all bytes.
+fn read(bytes: &mut [u8], held: usize) -> usize {
+    if bytes.len() < held {
+        return held;
     }
-    let kind = input::word(bytes, 0);
-    let n = input::word(bytes, 1) as usize;
-    if words.len() < n {
-        return false;
+    let got = libc::read(STDIN_FILENO, &mut bytes[held..]);
+    held + io::count(got, &bytes[held..])
+}
+
+// Answers the whole lines of some bytes and keeps the rest.
+fn answer(bytes: &mut [u8], end: usize, space: &mut [u32], out: &mut [u8]) -> usize {
+    if bytes.len() < end {
+        return 0;
     }
-    if !read(bytes, n * 4) {
-        return false;
+    let from = whole_lines(&bytes[0..end], space, out);
+    keep(bytes, from, end)
+}
+
+// The last line, where no line feed ends it.
+fn last(bytes: &[u8], held: usize, space: &mut [u32], out: &mut [u8]) {
+    if held == 0 {
+        return;
     }
-    input::words(bytes, words);
-    answer(kind, &words[..n], targets, wide, narrow);
-    print::end();
-    true
+    if bytes.len() < held {
+        return;
+    }
+    line(&bytes[0..held], space, out);
 }
 
 // A proved loop has to end, so it counts its turns down from a number that no run uses up.
-fn run(
-    bytes: &mut [u8],
-    words: &mut [u32],
-    targets: &mut [i32],
-    wide: &mut [i64],
-    narrow: &mut [u32],
-) {
+fn run(bytes: &mut [u8], space: &mut [u32], out: &mut [u8]) {
     let mut turns = u64::MAX;
-    while turns > 0 && one(bytes, words, targets, wide, narrow) {
+    let mut held = 0;
+    while turns > 0 {
+        let end = read(bytes, held);
+        if end == held {
+            last(bytes, held, space, out);
+            return;
+        }
+        held = answer(bytes, end, space, out);
         turns -= 1;
     }
 }
 
 fn main() {
-    let mut bytes = [0u8; 4800];
-    let mut words = [0u32; 1200];
-    let mut targets = [0i32; 1200];
-    let mut wide = [0i64; 64];
-    let mut narrow = [0u32; 1200];
-    run(&mut bytes, &mut words, &mut targets, &mut wide, &mut narrow);
+    let mut bytes = [0u8; 65536];
+    let mut space = [0u32; lists::MOST];
+    let mut out = [0u8; 32768];
+    run(&mut bytes, &mut space, &mut out);
 }

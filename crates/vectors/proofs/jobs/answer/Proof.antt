@@ -1,4 +1,4 @@
--- `answer` is safe and ends: the text that it lends is within the array. Assumes nothing.
+-- `answer` is safe: the text that it lends is within the array. Assumes nothing.
 use mathlib.Core.Path.{sym}
 use native.Mathlib.Omega.{arith}
 use lib.Seq.{length-take-le}
@@ -9,23 +9,23 @@ use Rattle.vectors.proofs.jobs.answer.Tie as tie
 returns : tie.Need-returns
 returns c = search needs
 
-slice-aggregate-narrow : tie.Need-slice-aggregate-narrow
-slice-aggregate-narrow c = search needs
+slice-aggregate-bytes : tie.Need-slice-aggregate-bytes
+slice-aggregate-bytes c = search needs
 
-narrow-requires : tie.Need-narrow-requires
-narrow-requires c κs = search needs
+bytes-requires : tie.Need-bytes-requires
+bytes-requires c κs = search needs
 
 array-share-prefix-text : tie.Need-array-share-prefix-text
 array-share-prefix-text c = search needs
 
-slice-aggregate-print : tie.Need-slice-aggregate-print
-slice-aggregate-print c = sym (length-take-le _ _ (omega (arith, c .before .text2 .given, c .before .before .before .before .if1 .left)))
+slice-aggregate-with-text : tie.Need-slice-aggregate-with-text
+slice-aggregate-with-text c = sym (length-take-le _ _ (omega (arith, c .before .text2 .given, c .before .before .before .before .if1 .left)))
 
-slice-aggregate-print-2 : tie.Need-slice-aggregate-print-2
-slice-aggregate-print-2 c = search needs
+with-text-requires : tie.Need-with-text-requires
+with-text-requires c κs = search needs
 
-print-requires : tie.Need-print-requires
-print-requires c κs = search needs
+same-length : tie.Need-same-length
+same-length c = search needs
 
 returns-2 : tie.Need-returns-2
 returns-2 c = search needs
@@ -35,10 +35,10 @@ answer-spec =
     tie.close
     (tie.spec
     returns
-    slice-aggregate-narrow
-    narrow-requires
+    slice-aggregate-bytes
+    bytes-requires
     array-share-prefix-text
-    slice-aggregate-print
-    slice-aggregate-print-2
-    print-requires
+    slice-aggregate-with-text
+    with-text-requires
+    same-length
     returns-2)

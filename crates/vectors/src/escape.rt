@@ -1,0 +1,116 @@
+// A job's text on one line: \n is a line feed, \\ a backslash, \xHH any byte, and every other byte is itself.
+use crate::input;
+use crate::print;
+ghost use Prim.Native.Nat.{_≤_};
+
+const BACKSLASH: u8 = 92;
+// Stands for what is no escape.
+const NONE: u32 = 256;
+
+fn byte(line: &[u8], at: usize) -> u8 {
+    if line.len() <= at {
+        return 0;
+    }
+    line[at]
+}
+
+// The value of a hexadecimal digit; 256 for another byte.
+fn nibble(c: u8) -> u32
+    ensures { λ r. ⌜ r ≤ 256 ⌝ }
+{
+    if c < 48 {
+        return NONE;
+    }
+    if c < 58 {
+        return (c - 48) as u32;
+    }
+    if c < 97 {
+        return NONE;
+    }
+    if c < 103 {
+        return (c - 87) as u32;
+    }
+    NONE
+}
+
+fn hex(high: u8, low: u8) -> u32 {
+    nibble(high) * 16 + nibble(low)
+}
+
+// The byte that an escape stands for, of the byte behind its backslash and the two after that.
+fn escaped(c: u8, high: u8, low: u8) -> u32 {
+    if c == b'n' {
+        return 10;
+    }
+    if c == BACKSLASH {
+        return 92;
+    }
+    if c == b'x' {
+        return hex(high, low);
+    }
+    NONE
+}
+
+// What stands at the front of some bytes, escaped or not.
+fn front(bytes: &[u8]) -> u32 {
+    let c = byte(bytes, 0);
+    if c == BACKSLASH {
+        return escaped(byte(bytes, 1), byte(bytes, 2), byte(bytes, 3));
+    }
+    c as u32
+}
+
+// How many bytes that takes.
+fn taken(bytes: &[u8]) -> usize
+    ensures { λ r. ⌜ 1 ≤ r ⌝ }
+{
+    if byte(bytes, 0) != BACKSLASH {
+        return 1;
+    }
+    if byte(bytes, 1) == b'x' {
+        return 4;
+    }
+    2
+}
+
+// The text behind a call's name and one space, a byte a word: how many there are, or NO_COUNT.
+pub fn read(line: &[u8], from: usize, words: &mut [u32]) -> usize {
+    let mut at = from;
+    let mut n = 0;
+    while at < line.len() {
+        let c = front(&line[at..]);
+        let step = taken(&line[at..]);
+        if line.len() - at < step {
+            return input::NO_COUNT;
+        }
+        if 255 < c {
+            return input::NO_COUNT;
+        }
+        if words.len() <= n {
+            return input::NO_COUNT;
+        }
+        words[n] = c;
+        n += 1;
+        at += step;
+    }
+    n
+}
+
+fn letter(out: &mut [u8], at: usize, c: u8) -> usize {
+    if c == b'\n' {
+        let next = print::byte(out, at, BACKSLASH);
+        return print::byte(out, next, b'n');
+    }
+    print::byte(out, at, c)
+}
+
+// A listing, in which only the line feeds need an escape.
+pub fn write(out: &mut [u8], text: &[u8]) -> usize {
+    let mut at = 0;
+    let mut k = 0;
+    while k < text.len() {
+        at = letter(out, at, text[k]);
+        k += 1;
+    }
+    at
+}
