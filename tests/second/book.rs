@@ -1,4 +1,5 @@
-//! The two files as they grow. Each kind has one method that writes a case and its answer.
+//! The two files as they grow: cases in the format of tests/README.md, and their answers. Each kind has one method that
+//! writes a case and its answer.
 
 use crate::constants::{admit, take_apart, Refusal};
 use crate::digits::{nonzeros, prefixes};
@@ -9,10 +10,11 @@ use crate::operation::operate;
 use crate::products::products;
 use crate::text::printed;
 use crate::widths::{bits, ranking, widths, Job};
+use std::fmt::Display;
 
+/// The most numbers of a line, and the most bytes of a job's text.
 pub const MOST_WORDS: usize = 1200;
-/// The most words of a case that is a text.
-pub const MOST_TEXT: usize = 1190;
+pub const MOST_LINE: usize = 16384;
 
 /// What every call on a graph is given; `rows` may be more than the words hold.
 #[derive(Clone)]
@@ -36,13 +38,28 @@ impl Call {
         products(self.b, &self.targets, self.rows as usize, &self.words, x, room as usize)
     }
 
-    fn case(&self, more: &[u32]) -> Vec<u32> {
-        let mut list = vec![self.b, self.targets.len() as u32, self.rows];
-        list.extend(more);
-        list.extend(self.targets.iter().map(|&t| t as u32));
-        list.extend(&self.words);
-        list
+    /// Behind the name, and the two numbers that all but check have there.
+    fn line(&self, name: &str) -> String {
+        let Call { b, targets, rows, words } = self;
+        let count = targets.len();
+        format!("{name} {b} {count}{} {rows}{}", spaced(targets), spaced(words))
     }
+}
+
+/// The numbers, each behind a space.
+fn spaced<N: Display>(list: &[N]) -> String {
+    list.iter().map(|n| format!(" {n}")).collect()
+}
+
+/// Printable ASCII stands for itself, but for the backslash.
+pub fn escaped(text: &[u8]) -> String {
+    let one = |&byte: &u8| match byte {
+        b'\n' => "\\n".to_string(),
+        b'\\' => "\\\\".to_string(),
+        b' '..=b'~' => (byte as char).to_string(),
+        _ => format!("\\x{byte:02x}"),
+    };
+    text.iter().map(one).collect()
 }
 
 /// Number, place, and what a lent buffer holds after a call that was to fill it from the front.
@@ -55,8 +72,7 @@ pub fn lent(room: u32, result: Result<Vec<i64>, Refusal>) -> String {
         }
         Err(refusal) => refusal,
     };
-    let contents: String = buffer.iter().map(|word| format!(" {word}")).collect();
-    format!("{number} {place}{contents}")
+    format!("{number} {place}{}", spaced(&buffer))
 }
 
 fn signed(list: Vec<u32>) -> Vec<i64> {
@@ -75,12 +91,11 @@ impl Book {
         Book { cases: Vec::new(), expected: String::new(), classes: Vec::new() }
     }
 
-    fn push(&mut self, class: &str, kind: u32, words: &[u32], answer: String) {
-        assert!(words.len() <= MOST_WORDS, "{class}: {} words", words.len());
-        for word in [kind, words.len() as u32].iter().chain(words) {
-            self.cases.extend(word.to_le_bytes());
-        }
-        self.expected += &answer;
+    /// A line that is wholly the caller's.
+    pub fn push(&mut self, class: &str, line: impl AsRef<[u8]>, answer: impl AsRef<str>) {
+        self.cases.extend(line.as_ref());
+        self.cases.push(b'\n');
+        self.expected += answer.as_ref();
         self.expected.push('\n');
         match self.classes.iter_mut().find(|c| c.0 == class) {
             Some(c) => c.1 += 1,
@@ -90,23 +105,22 @@ impl Book {
 
     pub fn apart(&mut self, class: &str, t: i32) {
         let a = take_apart(t);
-        self.push(class, 1, &[t as u32], format!("{} {} {}", a.sign, a.shift, a.odd));
+        self.push(class, format!("apart {t}"), format!("{} {} {}", a.sign, a.shift, a.odd));
     }
 
     pub fn admit(&mut self, class: &str, b: u32, targets: &[i32]) {
-        let mut words = vec![b];
-        words.extend(targets.iter().map(|&t| t as u32));
         let (number, place) = admit(b, targets).err().unwrap_or((0, 0));
-        self.push(class, 2, &words, format!("{number} {place}"));
+        let line = format!("admit {b}{}", spaced(targets));
+        self.push(class, line, format!("{number} {place}"));
     }
 
     pub fn digits(&mut self, class: &str, c: u32) {
         let list = prefixes(c);
         let mut answer = format!("{} {}", nonzeros(c), list.len());
         for p in list {
-            answer += &format!(" {} {} {} {}", p.before, p.gap, p.s, p.value);
+            answer += &spaced(&[p.before, p.gap, p.s, p.value]);
         }
-        self.push(class, 3, &[c], answer);
+        self.push(class, format!("digits {c}"), answer);
     }
 
     pub fn operation(&mut self, class: &str, words: [u32; 6]) {
@@ -115,36 +129,36 @@ impl Book {
             Some(o) => format!("1 {} {} {}", o.n, o.r, o.value),
             None => "0".to_string(),
         };
-        self.push(class, 4, &words, answer);
+        self.push(class, format!("operate{}", spaced(&words)), answer);
     }
 
     pub fn row(&mut self, class: &str, b: u32, i: u32, words: &[u32]) {
         let answer = row_valid(b, i as u64, words) as u32;
-        self.push(class, 5, &[&[b, i], words].concat(), answer.to_string());
+        self.push(class, format!("row {b} {i}{}", spaced(words)), answer.to_string());
     }
 
     pub fn bits(&mut self, class: &str, value: u32) {
-        self.push(class, 6, &[value], bits(value).to_string());
+        self.push(class, format!("bits {value}"), bits(value).to_string());
     }
 
     pub fn check(&mut self, class: &str, call: &Call) {
         let (number, place) = call.check().err().unwrap_or((0, 0));
-        self.push(class, 7, &call.case(&[]), format!("{number} {place}"));
+        self.push(class, call.line("check"), format!("{number} {place}"));
     }
 
     pub fn products(&mut self, class: &str, call: &Call, x: i32, room: u32) {
         let answer = lent(room, call.products(x, room));
-        self.push(class, 8, &call.case(&[x as u32, room]), answer);
+        self.push(class, call.line(&format!("products {x} {room}")), answer);
     }
 
     pub fn widths(&mut self, class: &str, call: &Call, input: u32, room: u32) {
         let answer = lent(room, widths(call.job(), input, room as usize).map(signed));
-        self.push(class, 9, &call.case(&[input, room]), answer);
+        self.push(class, call.line(&format!("widths {input} {room}")), answer);
     }
 
     pub fn ranking(&mut self, class: &str, call: &Call, input: u32, room: u32) {
         let answer = lent(room, ranking(call.job(), input, room as usize).map(signed));
-        self.push(class, 10, &call.case(&[input, room]), answer);
+        self.push(class, call.line(&format!("ranking {input} {room}")), answer);
     }
 
     pub fn distance(&mut self, class: &str, b: u32, target: u32, ready: &[u32]) {
@@ -152,14 +166,14 @@ impl Book {
             Ok(d) => format!("0 0 {d}"),
             Err((number, place)) => format!("{number} {place}"),
         };
-        self.push(class, 11, &[&[b, target], ready].concat(), answer);
+        self.push(class, format!("distance {b} {target}{}", spaced(ready)), answer);
     }
 
     /// The distance from 1 alone, in a class named after it: so the classes count the constants.
     pub fn distance_from_1(&mut self, b: u32, target: u32) {
         let d = distance(b, &[1], target).expect("an odd target below 2^b");
         let far = ["at 0", "at 1", "at 2", "beyond"][d as usize];
-        self.push(&format!("distance from 1, b {b}, {far}"), 11, &[b, target, 1], format!("0 0 {d}"));
+        self.distance(&format!("distance from 1, b {b}, {far}"), b, target, &[1]);
     }
 
     pub fn generate(&mut self, class: &str, b: u32, room: u32, targets: &[i32]) {
@@ -168,17 +182,14 @@ impl Book {
             Err((number, place)) => (number, place, Vec::new()),
         };
         let rows = words.len() / ROW;
-        let written: String = words.iter().map(|word| format!(" {word}")).collect();
         let untouched = room as usize - words.len();
-        let mut case = vec![b, room];
-        case.extend(targets.iter().map(|&t| t as u32));
-        self.push(class, 12, &case, format!("{number} {place} {rows}{written} {untouched}"));
+        let answer = format!("{number} {place} {rows}{} {untouched}", spaced(&words));
+        self.push(class, format!("generate {b} {room}{}", spaced(targets)), answer);
     }
 
-    /// The words are the text's bytes. The printed lines have their line feeds; one more follows.
     pub fn text(&mut self, class: &str, text: &[u8]) {
-        assert!(text.len() <= MOST_TEXT, "{class}: {} bytes", text.len());
-        let words: Vec<u32> = text.iter().map(|&byte| byte as u32).collect();
-        self.push(class, 13, &words, printed(text));
+        let space = if text.is_empty() { "" } else { " " };
+        let line = format!("job{space}{}", escaped(text));
+        self.push(class, line, escaped(printed(text).as_bytes()));
     }
 }

@@ -2,12 +2,13 @@
 
 use crate::book::Book;
 use crate::distance_cases::kind_distance;
+use crate::format_cases::kind_format;
 use crate::generate_cases::kind_generate;
 use crate::graph_cases::{kind_check, kind_products, kind_ranking, kind_widths};
 use crate::leaves::{kind_admit, kind_apart, kind_bits, kind_digits, kind_operation, kind_row};
 use crate::text_cases::kind_text;
 
-pub const KINDS: [fn(&mut Book); 13] = [
+const KINDS: [fn(&mut Book); 14] = [
     kind_apart,
     kind_admit,
     kind_digits,
@@ -21,17 +22,20 @@ pub const KINDS: [fn(&mut Book); 13] = [
     kind_distance,
     kind_generate,
     kind_text,
+    kind_format,
 ];
 
-/// Writes both files and prints the classes; whether both could be written.
-pub fn write(highest: usize, cases: &str, expected: &str) -> bool {
+/// Writes both files and prints the classes; whether both could be written. The last line has no line feed.
+pub fn write(cases: &str, expected: &str) -> bool {
     let mut book = Book::new();
-    for kind in &KINDS[..highest] {
+    for kind in KINDS {
         kind(&mut book);
     }
+    book.cases.pop();
     for (class, count) in &book.classes {
         println!("{class} {count}");
     }
+    println!("{} cases", book.classes.iter().map(|c| c.1).sum::<u32>());
     let written = std::fs::write(cases, &book.cases).and(std::fs::write(expected, &book.expected));
     if let Err(error) = &written {
         eprintln!("{error}");

@@ -7,6 +7,7 @@ mod digits;
 mod distance;
 mod distance_cases;
 mod draw;
+mod format_cases;
 mod generate_cases;
 mod generator;
 mod graph;
@@ -32,14 +33,9 @@ use std::process::exit;
 
 const USAGE: &str = "usage:
   second selftest
-  second cases HIGHEST CASES EXPECTED (kinds 1 to HIGHEST, which is 1 to 13)
+  second cases CASES ANSWERS [SEED] (cases of every kind in the format of tests/README.md, one a line, and their answers)
   second job (what the program prints for the text on standard input)
   second jobs DIRECTORY COUNT (texts NNN.job, and what the program prints for each: NNN.out)";
-
-/// The number of a kind.
-fn kind(text: &str) -> Option<usize> {
-    text.parse().ok().filter(|n| (1..=cases::KINDS.len()).contains(n))
-}
 
 /// All of the input is read, since one byte too many changes the answer.
 fn job() -> bool {
@@ -54,9 +50,11 @@ fn main() {
     let words: Vec<&str> = arguments.iter().map(|a| a.as_str()).collect();
     let fine = match words[..] {
         ["selftest"] => Some(selftest::run()),
-        ["cases", highest, cases, expected] => {
-            kind(highest).map(|highest| cases::write(highest, cases, expected))
-        }
+        ["cases", cases, expected] => Some(cases::write(cases, expected)),
+        ["cases", cases, expected, seed] => seed.parse().ok().map(|seed| {
+            rng::start(seed);
+            cases::write(cases, expected)
+        }),
         ["job"] => Some(job()),
         ["jobs", directory, count] => count.parse().ok().map(|n| jobs::write(directory, n)),
         _ => None,

@@ -1,12 +1,24 @@
 //! splitmix64: only wrapping 64-bit arithmetic, so every machine draws the same numbers.
 
+use std::sync::atomic::{AtomicU64, Ordering};
+
+static SEED: AtomicU64 = AtomicU64::new(0);
+
+/// All that is drawn from now on depends on this too. The selftest draws with 0.
+pub fn start(seed: u64) {
+    SEED.store(seed, Ordering::Relaxed);
+}
+
 pub struct Rng {
     state: u64,
 }
 
 impl Rng {
-    pub fn new(seed: u64) -> Rng {
-        Rng { state: seed }
+    /// Each class of cases draws from a stream of its own.
+    pub fn new(stream: u64) -> Rng {
+        let mut rng = Rng { state: SEED.load(Ordering::Relaxed) };
+        let start = if rng.state == 0 { 0 } else { rng.next() };
+        Rng { state: start.wrapping_add(stream) }
     }
 
     pub fn next(&mut self) -> u64 {

@@ -210,43 +210,39 @@ fn accepted_graphs(t: &mut Tally) {
     t.same("output width of 0 whatever w", [2, 32].map(|w| output_width(w, 0)), [1, 1]);
 }
 
-fn line(push: impl Fn(&mut Book)) -> (Vec<u8>, String) {
+/// The line that is pushed, and its answer.
+fn line(push: impl Fn(&mut Book)) -> (String, String) {
     let mut book = Book::new();
     push(&mut book);
-    (book.cases, book.expected)
-}
-
-fn bytes(words: &[u32]) -> Vec<u8> {
-    words.iter().flat_map(|word| word.to_le_bytes()).collect()
+    (String::from_utf8(book.cases).expect("ASCII"), book.expected)
 }
 
 fn layouts(t: &mut Tally) {
-    let text = |s: &str| format!("{s}\n");
     t.same("a refusal writes nothing", lent(3, Err((4, 0))), "4 0 7000 7001 7002".to_string());
     t.same("only what is needed", lent(3, Ok(vec![-5])), "0 0 -5 7001 7002".to_string());
     let words = flatten(&[[0, 0, 0, 2, 0, 0, 5], [1, 1, 0, 3, 0, 0, 45]]);
     let call = Call { b: 8, targets: vec![45, -20, 0], rows: 2, words };
-    let tail = [45, -20i32 as u32, 0, 0, 0, 0, 2, 0, 0, 5, 1, 1, 0, 3, 0, 0, 45];
-    let case = |kind: u32, head: &[u32]| {
-        let length = (head.len() + tail.len()) as u32;
-        bytes(&[&[kind, length], head, &tail].concat())
+    let mut is = |got: (String, String), case: &str, answer: &str| {
+        t.same(&format!("case of {case}"), got, (format!("{case}\n"), format!("{answer}\n")));
     };
-    let got = line(|book| book.check("", &call));
-    t.same("case of check", got, (case(7, &[8, 3, 2]), text("0 0")));
-    let got = line(|book| book.products("", &call, -3, 4));
-    let expected = (case(8, &[8, 3, 2, -3i32 as u32, 4]), text("0 0 -135 60 0 7003"));
-    t.same("case of products", got, expected);
-    let got = line(|book| book.widths("", &call, 12, 6));
-    t.same("case of widths", got, (case(9, &[8, 3, 2, 12, 6]), text("0 0 15 18 18 17 1 7005")));
-    let got = line(|book| book.ranking("", &call, 12, 3));
-    t.same("case of ranking", got, (case(10, &[8, 3, 2, 12, 3]), text("0 0 2 1 7002")));
-    let got = line(|book| book.distance("", 8, 43, &[1]));
-    t.same("case of distance", got, (bytes(&[11, 3, 8, 43, 1]), text("0 0 3")));
-    t.same("distance refused", line(|book| book.distance("", 8, 43, &[])).1, text("10 0"));
-    let got = line(|book| book.generate("", 8, 897, &[5, 5]));
-    let expected = (bytes(&[12, 4, 8, 897, 5, 5]), text("0 0 1 0 0 0 2 0 0 5 890"));
-    t.same("case of generate", got, expected);
-    t.same("generate refused", line(|book| book.generate("", 8, 895, &[5])).1, text("4 0 0 895"));
+    let graph = |head: &str| format!("{head} 8 3 45 -20 0 2 0 0 0 2 0 0 5 1 1 0 3 0 0 45");
+    is(line(|book| book.check("", &call)), &graph("check"), "0 0");
+    is(line(|book| book.products("", &call, -3, 4)), &graph("products -3 4"), "0 0 -135 60 0 7003");
+    is(line(|book| book.widths("", &call, 12, 6)), &graph("widths 12 6"), "0 0 15 18 18 17 1 7005");
+    is(line(|book| book.ranking("", &call, 12, 3)), &graph("ranking 12 3"), "0 0 2 1 7002");
+    is(line(|book| book.distance("", 8, 43, &[1])), "distance 8 43 1", "0 0 3");
+    is(line(|book| book.distance("", 8, 43, &[])), "distance 8 43", "10 0");
+    let one_row = "0 0 1 0 0 0 2 0 0 5 890";
+    is(line(|book| book.generate("", 8, 897, &[5, 5])), "generate 8 897 5 5", one_row);
+    is(line(|book| book.generate("", 8, 895, &[-5])), "generate 8 895 -5", "4 0 0 895");
+    is(line(|book| book.apart("", -20)), "apart -20", "-1 2 5");
+    is(line(|book| book.admit("", 8, &[1, -257])), "admit 8 1 -257", "3 2");
+    is(line(|book| book.digits("", 3)), "digits 3", "2 1 1 2 1 3");
+    is(line(|book| book.operation("", [8, 3, 3, 0, 4, 1])), "operate 8 3 3 0 4 1", "1 -45 0 45");
+    is(line(|book| book.row("", 8, 1, &[0; ROW])), "row 8 1 0 0 0 0 0 0 0", "0");
+    is(line(|book| book.bits("", 45)), "bits 45", "6");
+    is(line(|book| book.text("", b"")), "job", "refused=12 place=1\\n");
+    is(line(|book| book.text("", b"b \\\n\xff ")), "job b \\\\\\n\\xff ", "refused=12 place=1\\n");
 }
 
 /// The number of the earliest fault in the mask.

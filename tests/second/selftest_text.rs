@@ -1,6 +1,5 @@
 //! Named checks of job texts: listings and refusals by hand, and what the classes of texts claim.
 
-use crate::book::Book;
 use crate::constants::Refusal;
 use crate::graph::{check, value_at};
 use crate::graph_cases::masks;
@@ -338,18 +337,6 @@ fn listings_hold(t: &mut Tally) {
     }
 }
 
-/// How a case and its answer lie in the files.
-fn files(t: &mut Tally) {
-    let mut book = Book::new();
-    book.text("a", b"b\xff");
-    book.text("a", ended(&EXAMPLE).as_bytes());
-    let front: Vec<u8> = [13u32, 2, 98, 255, 13, 46].iter().flat_map(|w| w.to_le_bytes()).collect();
-    t.same("a case is one word for each byte", &book.cases[..24], &front[..]);
-    t.same("and no more", book.cases.len(), 24 + 4 * 46);
-    let expected = format!("refused=12 place=1\n\n{DOCUMENT}\n");
-    t.same("an answer is followed by a line feed", book.expected, expected);
-}
-
 fn chosen_jobs(t: &mut Tally) {
     let some = chosen(300);
     t.same("300 chosen", some.len(), 300);
@@ -388,7 +375,7 @@ fn examples(t: &mut Tally) {
     t.same("example refused-constant", all[3].2, "refused=3 place=3\n");
 }
 
-pub const TEXTS: [(&str, fn(&mut Tally)); 10] = [
+pub const TEXTS: [(&str, fn(&mut Tally)); 9] = [
     ("listings", listings),
     ("refusals", refusals),
     ("precedence", precedence),
@@ -396,7 +383,6 @@ pub const TEXTS: [(&str, fn(&mut Tally)); 10] = [
     ("every refusal", reached_all),
     ("one writing", one_writing),
     ("listings hold", listings_hold),
-    ("files", files),
     ("chosen jobs", chosen_jobs),
     ("examples", examples),
 ];

@@ -1,6 +1,6 @@
 //! Kind 13, the malformed texts, each class with the line at which it is refused.
 
-use crate::book::MOST_TEXT;
+use crate::book::MOST_WORDS;
 use crate::draw::one_of;
 use crate::rng::Rng;
 use crate::text::MOST_BYTES;
@@ -328,7 +328,7 @@ pub fn overlong(length: usize) -> Vec<Vec<u8>> {
 }
 
 fn long(pile: &mut Pile) {
-    for length in [257, 258, 300, 511, 512, 513, 768, 1000, 1023, 1024, 1025, 1189, MOST_TEXT] {
+    for length in [257, 258, 300, 511, 512, 513, 768, 1000, 1023, 1024, 1025, 1199, MOST_WORDS] {
         for all in overlong(length) {
             pile.add("over 256 bytes", all);
         }

@@ -1,28 +1,30 @@
 // One case of distance and one of the generator.
-use crate::input;
-use crate::print;
+use crate::print::Line;
 use meaning::Answer;
+use meaning::Far;
 use meaning::ROW_LENGTH;
 
-// The words are b, the target and the ready list. A refusal has no distance to print.
-pub fn distance(words: &[u32]) {
-    if words.len() < 2 {
-        return;
+// How many words a case may have, and how many a lent buffer.
+pub const MOST: usize = 1200;
+
+// What the k-th place of a lent buffer holds before a call: 7000, 7001, ..
+pub fn filling(k: usize) -> u32 {
+    7000 + (k % 100000) as u32
+}
+
+pub fn fill(out: &mut [u32]) {
+    let mut k = 0;
+    while k < out.len() {
+        out[k] = filling(k);
+        k += 1;
     }
-    let far = distance::distance(words[0], &words[2..], words[1]);
-    let answer = far.answer();
-    print::answer(answer);
-    let Answer::Accepted = answer else {
-        return;
-    };
-    print::next(far.steps());
 }
 
 // How many words from this place on hold what they held before the call, up to the first that does not.
 fn untouched(words: &[u32], from: usize) -> usize {
     let mut k = from;
     while k < words.len() {
-        if words[k] != input::filling(k) {
+        if words[k] != filling(k) {
             return k - from;
         }
         k += 1;
@@ -31,33 +33,41 @@ fn untouched(words: &[u32], from: usize) -> usize {
 }
 
 // The rows' words are printed, and of the others, which are many, only how many of them the call left alone.
-fn generate_case(b: u32, ts: &[i32], out: &mut [u32]) {
-    input::fill(out);
-    let drawn = generator::generate(b, ts, out);
-    let rows = drawn.rows();
-    print::answer(drawn.answer());
-    print::next(rows);
+fn rows(rows: u32, lent: &[u32], line: Line) -> Line {
     let end = (rows as usize) * ROW_LENGTH;
-    if out.len() < end {
-        return;
+    if lent.len() < end {
+        return line;
     }
-    print::all(&out[..end]);
-    print::next_size(untouched(out, end));
+    let left = untouched(lent, end) as u64;
+    line.word(rows).all(&lent[0..end]).number(false, left)
 }
 
-// The words are b, the buffer's length and the targets.
-pub fn generate(words: &[u32], targets: &mut [i32], narrow: &mut [u32]) {
-    let n = words.len();
-    let room = input::at(words, 1) as usize;
-    if n < 2 {
-        return;
+fn drawn(b: u32, targets: &[i32], lent: &mut [u32], line: Line) -> Line {
+    fill(lent);
+    let drawn = generator::generate(b, targets, lent);
+    rows(drawn.rows(), lent, line.answer(drawn.answer()))
+}
+
+pub fn generate(b: u32, room: usize, targets: &[i32], line: Line) -> Line {
+    if MOST < room {
+        return line;
     }
-    if targets.len() < n {
-        return;
+    let mut lent = [0u32; MOST];
+    drawn(b, targets, &mut lent[..room], line)
+}
+
+fn told(far: Far, line: Line) -> Line {
+    let answer = far.answer();
+    let Answer::Accepted = answer else {
+        return line.answer(answer);
+    };
+    line.answer(answer).word(far.steps())
+}
+
+// The words are b, the target and the ready list. A refusal has no distance to print.
+pub fn distance(words: &[u32], line: Line) -> Line {
+    if words.len() < 2 {
+        return line;
     }
-    if narrow.len() < room {
-        return;
-    }
-    input::signed_words(&words[2..], targets);
-    generate_case(words[0], &targets[..n - 2], &mut narrow[..room]);
+    told(distance::distance(words[0], &words[2..], words[1]), line)
 }

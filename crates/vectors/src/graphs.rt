@@ -1,87 +1,165 @@
-// One case of each call on a graph. A case's words are a head, the targets and the rows' words. A lent buffer of `room`
-// places is filled before the call and printed whole after it, so that what a call may not touch is seen too.
+// One case of each call on targets, most of them with a graph. A lent buffer is filled before the call and printed whole
+// after it, so that what a call may not touch is seen too.
+use crate::draws;
 use crate::input;
-use crate::print;
-ghost use Prim.Native.Nat.{_≤_};
+use crate::names;
+use crate::print::Line;
+use draws::MOST;
+use meaning::Answer;
 
-fn multiply_case(b: u32, ts: &[i32], n: usize, rows: &[u32], x: i32, out: &mut [i64]) {
-    input::fill_signed(out);
-    let answer = products::multiply(b, ts, n, rows, x, out);
-    print::answer(answer);
-    print::all_signed(out);
+// How many places a buffer of products may have.
+const MOST_PRODUCTS: usize = 64;
+
+// A case's numbers but its lists: the call's name, x or the input width, the lent buffer's length, b and the row count.
+struct Head {
+    name: u64,
+    x: u32,
+    room: usize,
+    b: u32,
+    n: usize,
 }
 
-fn widths_case(b: u32, ts: &[i32], n: usize, rows: &[u32], input: u32, out: &mut [u32]) {
-    input::fill(out);
-    let answer = widths::measure(b, ts, n, rows, input, out);
-    print::answer(answer);
-    print::all(out);
+fn fill(out: &mut [i64]) {
+    let mut k = 0;
+    while k < out.len() {
+        out[k] = draws::filling(k) as i64;
+        k += 1;
+    }
 }
 
-fn ranking_case(b: u32, ts: &[i32], n: usize, rows: &[u32], input: u32, out: &mut [u32]) {
-    input::fill(out);
-    let answer = ranking::rank(b, ts, n, rows, input, out);
-    print::answer(answer);
-    print::all(out);
+// On a quiet line the buffer is not even walked through.
+fn shown_signed(a: Answer, lent: &[i64], line: Line) -> Line {
+    if line.quiet {
+        return line;
+    }
+    line.answer(a).all_signed(lent)
 }
 
-// The head is b, the number of targets, the number of rows, and for all but check x or the input width, and room.
-fn graph_case(
-    kind: u32,
-    head: &[u32],
-    ts: &[i32],
-    rows: &[u32],
-    wide: &mut [i64],
-    narrow: &mut [u32],
-) {
-    let b = input::at(head, 0);
-    let n = input::at(head, 2) as usize;
-    if kind == 7 {
-        print::answer(graph::check(b, ts, n, rows));
-        return;
+fn shown(a: Answer, lent: &[u32], line: Line) -> Line {
+    if line.quiet {
+        return line;
     }
-    let room = input::at(head, 4) as usize;
-    if kind == 8 {
-        if wide.len() < room {
-            return;
-        }
-        let x = input::signed(input::at(head, 3));
-        multiply_case(b, ts, n, rows, x, &mut wide[..room]);
-        return;
-    }
-    if narrow.len() < room {
-        return;
-    }
-    let width = input::at(head, 3);
-    if kind == 9 {
-        widths_case(b, ts, n, rows, width, &mut narrow[..room]);
-        return;
-    }
-    ranking_case(b, ts, n, rows, width, &mut narrow[..room]);
+    line.answer(a).all(lent)
 }
 
-fn head_length(kind: u32) -> usize
-    ensures { λ r. ⌜ r ≤ 5 ⌝ }
-{
-    if kind == 7 {
-        return 3;
-    }
-    5
+fn multiplied(h: Head, ts: &[i32], rows: &[u32], lent: &mut [i64], line: Line) -> Line {
+    fill(lent);
+    let answer = products::multiply(h.b, ts, h.n, rows, input::signed(h.x), lent);
+    shown_signed(answer, lent, line)
 }
 
-pub fn answer(kind: u32, words: &[u32], targets: &mut [i32], wide: &mut [i64], narrow: &mut [u32]) {
-    let head = head_length(kind);
+fn products(h: Head, ts: &[i32], rows: &[u32], line: Line) -> Line {
+    let room = h.room;
+    if MOST_PRODUCTS < room {
+        return line;
+    }
+    let mut lent = [0i64; MOST_PRODUCTS];
+    multiplied(h, ts, rows, &mut lent[..room], line)
+}
+
+// Widths or the ranking.
+fn measured(h: Head, ts: &[i32], rows: &[u32], lent: &mut [u32]) -> Answer {
+    if h.name == names::WIDTHS {
+        return widths::measure(h.b, ts, h.n, rows, h.x, lent);
+    }
+    ranking::rank(h.b, ts, h.n, rows, h.x, lent)
+}
+
+fn sized(h: Head, ts: &[i32], rows: &[u32], lent: &mut [u32], line: Line) -> Line {
+    draws::fill(lent);
+    let answer = measured(h, ts, rows, lent);
+    shown(answer, lent, line)
+}
+
+fn sizes(h: Head, ts: &[i32], rows: &[u32], line: Line) -> Line {
+    let room = h.room;
+    if MOST < room {
+        return line;
+    }
+    let mut lent = [0u32; MOST];
+    sized(h, ts, rows, &mut lent[..room], line)
+}
+
+fn call(h: Head, ts: &[i32], rows: &[u32], line: Line) -> Line {
+    if h.name == names::ADMIT {
+        return line.answer(constants::admit(h.b, ts));
+    }
+    if h.name == names::GENERATE {
+        return draws::generate(h.b, h.room, ts, line);
+    }
+    if h.name == names::CHECK {
+        return line.answer(graph::check(h.b, ts, h.n, rows));
+    }
+    if h.name == names::PRODUCTS {
+        return products(h, ts, rows, line);
+    }
+    sizes(h, ts, rows, line)
+}
+
+// The words are the targets.
+fn with_targets(h: Head, words: &[u32], rows: &[u32], line: Line) -> Line {
+    let k = words.len();
+    if MOST < k {
+        return line;
+    }
+    let mut targets = [0i32; MOST];
+    input::targets(words, &mut targets);
+    call(h, &targets[..k], rows, line)
+}
+
+fn headed(name: u64, x: u32, room: u32, b: u32, n: u32) -> Head {
+    Head {
+        name,
+        x,
+        room: room as usize,
+        b,
+        n: n as usize,
+    }
+}
+
+// The words are b, the number of targets, the targets, the number of rows and the rows' words.
+fn graph(name: u64, x: u32, room: u32, words: &[u32], line: Line) -> Line {
     let k = input::at(words, 1) as usize;
-    if words.len() < head {
-        return;
+    if words.len() < 3 {
+        return line;
     }
-    if words.len() - head < k {
-        return;
+    if words.len() - 3 < k {
+        return line;
     }
-    if targets.len() < k {
-        return;
+    let end = 2 + k;
+    let h = headed(name, x, room, words[0], words[end]);
+    with_targets(h, &words[2..end], &words[end + 1..], line)
+}
+
+// Before the words of a graph all calls but check have x or the input width, and the lent buffer's length.
+pub fn answer(name: u64, words: &[u32], line: Line) -> Line {
+    if name == names::CHECK {
+        return graph(name, 0, 0, words, line);
     }
-    let from = head + k;
-    input::signed_words(&words[head..from], targets);
-    graph_case(kind, words, &targets[..k], &words[from..], wide, narrow);
+    if words.len() < 2 {
+        return line;
+    }
+    graph(name, words[0], words[1], &words[2..], line)
+}
+
+// The words are b and the targets.
+pub fn admit(words: &[u32], line: Line) -> Line {
+    if words.len() < 1 {
+        return line;
+    }
+    with_targets(
+        headed(names::ADMIT, 0, 0, words[0], 0),
+        &words[1..],
+        &words[0..0],
+        line,
+    )
+}
+
+// The words are b, the lent buffer's length and the targets.
+pub fn generate(words: &[u32], line: Line) -> Line {
+    if words.len() < 2 {
+        return line;
+    }
+    let h = headed(names::GENERATE, 0, words[1], words[0], 0);
+    with_targets(h, &words[2..], &words[0..0], line)
 }

@@ -1,25 +1,26 @@
-// One case of a job's text, a byte a word: what the program would print for it.
-use crate::input;
-use libc::STDOUT_FILENO;
+// One case of a job's text: what the program would print for it.
+use crate::draws::MOST;
+use crate::escape;
+use crate::print::Line;
 use meaning::Printed;
 
-fn print(text: &[u8], out: &mut [u8]) {
-    let printed = reply::answer(text, out);
-    let Printed::Bytes(n) = printed else {
-        return;
+fn listed(text: &[u8], line: Line) -> Line {
+    let mut lent = [0u8; 24899];
+    let Printed::Bytes(n) = reply::answer(text, &mut lent) else {
+        return line;
     };
-    if n <= out.len() {
-        io::write_all(STDOUT_FILENO, &out[..n]);
+    if 24899 < n {
+        return line;
     }
+    line.text(&lent[..n])
 }
 
-pub fn answer(words: &[u32]) {
-    let n = words.len();
-    let mut text = [0u8; 1200];
-    if text.len() < n {
-        return;
+// What stands behind `job`: a space and the text, or nothing.
+pub fn answer(rest: &[u8]) -> Line {
+    let mut text = [0u8; MOST];
+    let n = escape::read(rest, &mut text);
+    if MOST < n {
+        return Line::new(false);
     }
-    input::narrow(words, &mut text);
-    let mut out = [0u8; 24899];
-    print(&text[..n], &mut out);
+    listed(&text[..n], Line::new(false))
 }

@@ -1,85 +1,98 @@
 // One case of each leaf call.
 use crate::input;
-use crate::print;
+use crate::names;
+use crate::print::Line;
 use meaning::Operated;
 use meaning::Prefix;
 
-pub fn apart(words: &[u32]) {
-    let p = constants::take_apart(input::signed(input::at(words, 0)));
-    print::sign(p.sign);
-    print::next(p.shift);
-    print::next(p.odd);
+fn apart(t: i32, line: Line) -> Line {
+    let p = constants::take_apart(t);
+    let signed = line.number(p.sign < 0, numbers::magnitude(p.sign) as u64);
+    signed.word(p.shift).word(p.odd)
 }
 
-pub fn admit(words: &[u32], targets: &mut [i32]) {
-    let n = words.len();
-    if n < 1 {
-        return;
-    }
-    if targets.len() < n {
-        return;
-    }
-    input::signed_words(&words[1..], targets);
-    print::answer(constants::admit(words[0], &targets[..n - 1]));
+fn prefix(p: Prefix, line: Line) -> Line {
+    line.word(p.before).word(p.gap).word(p.s).word(p.value)
 }
 
-fn prefix(p: Prefix) {
-    print::next(p.before);
-    print::next(p.gap);
-    print::next(p.s);
-    print::next(p.value);
-}
-
-pub fn digits(words: &[u32]) {
-    let c = input::at(words, 0);
-    print::first(digits::nonzero_digits(c));
+fn prefixes(c: u32, line: Line) -> Line {
     let ps = digits::prefixes_of(c);
     let count = ps.count as usize;
     let list = ps.list;
-    print::next(ps.count);
+    let mut next = line.word(ps.count);
     let mut k = 0;
     while k < count {
         if 16 <= k {
-            return;
+            return next;
         }
-        prefix(list[k]);
+        next = prefix(list[k], next);
         k += 1;
     }
+    next
 }
 
-pub fn operate(words: &[u32]) {
-    let made = operation::operate(
+fn operated(words: &[u32]) -> Operated {
+    operation::operate(
         input::at(words, 0),
         input::at(words, 1),
         input::at(words, 2),
         input::at(words, 3),
         input::at(words, 4),
         input::at(words, 5),
-    );
-    let Operated::Made { n, r, value } = made else {
-        print::first(0);
-        return;
+    )
+}
+
+fn operate(words: &[u32], line: Line) -> Line {
+    let Operated::Made { n, r, value } = operated(words) else {
+        return line.word(0);
     };
-    print::first(1);
-    print::next_signed(n);
-    print::next(r);
-    print::next(value);
+    line.word(1).signed(n).word(r).word(value)
 }
 
-// A row's number counts from 1, and the call counts the rows before it.
-pub fn row(words: &[u32]) {
-    let b = input::at(words, 0);
-    let i = input::at(words, 1) as usize;
-    if words.len() < 2 {
-        return;
+// The calls whose cases are one number.
+fn of_number(name: u64, n: u32, line: Line) -> Line {
+    if name == names::APART {
+        return apart(input::signed(n), line);
     }
+    if name == names::DIGITS {
+        return prefixes(n, line.word(digits::nonzero_digits(n)));
+    }
+    if name == names::BITS {
+        return line.word(widths::extra_bits(n));
+    }
+    line
+}
+
+fn fits(b: u32, i: usize, words: &[u32]) -> bool {
     if i == 0 {
-        print::first(0);
-        return;
+        return false;
     }
-    print::yes_or_no(rows::row_fits(b, &words[2..], i - 1));
+    rows::row_fits(b, words, i - 1)
 }
 
-pub fn bits(words: &[u32]) {
-    print::first(widths::extra_bits(input::at(words, 0)));
+// The words are b, the row's number, which counts from 1, and the rows' words. The call counts the rows before it.
+fn row(words: &[u32], line: Line) -> Line {
+    if words.len() < 2 {
+        return line;
+    }
+    if fits(words[0], input::at(words, 1) as usize, &words[2..]) {
+        return line.word(1);
+    }
+    line.word(0)
+}
+
+pub fn answer(name: u64, words: &[u32], line: Line) -> Line {
+    if name == names::ROW {
+        return row(words, line);
+    }
+    if words.len() == 1 {
+        return of_number(name, words[0], line);
+    }
+    if words.len() != 6 {
+        return line;
+    }
+    if name == names::OPERATE {
+        return operate(words, line);
+    }
+    line
 }

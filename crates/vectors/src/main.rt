@@ -1,112 +1,103 @@
-// Answers cases for the library's calls, so that another program's answers can be held to them.
-// A case is two little-endian 32-bit words, its kind and the number n of its words, and then the n words.
-// Each answer is a line of decimal numbers.
+// Answers cases for the library's calls, one a line, so that anyone can hold them to answers of their own.
+// tests/README.md has the lines' format.
+mod case;
 mod draws;
+mod escape;
 mod graphs;
 mod input;
 mod jobs;
 mod leaves;
+mod names;
 mod print;
 
+use case::LONGEST;
 use libc::STDIN_FILENO;
 
-// The calls on single numbers and one row. A kind that is not known answers an empty line.
-fn leaf(kind: u32, words: &[u32]) {
-    if kind == 1 {
-        leaves::apart(words);
+// Answers every whole line, and says where the rest begins.
+fn whole_lines(bytes: &[u8]) -> usize {
+    let mut from = 0;
+    while from < bytes.len() {
+        let end = input::find(bytes, from, b'\n');
+        if bytes.len() <= end {
+            return from;
+        }
+        case::of_line(&bytes[from..end]).end();
+        from = end + 1;
     }
-    if kind == 3 {
-        leaves::digits(words);
-    }
-    if kind == 4 {
-        leaves::operate(words);
-    }
-    if kind == 5 {
-        leaves::row(words);
-    }
-    if kind == 6 {
-        leaves::bits(words);
-    }
+    from
 }
 
-// Kinds 1 to 6 are the leaves, 7 to 10 the calls on a graph, 11 is distance, 12 the generator and 13 a job.
-fn answer(kind: u32, words: &[u32], targets: &mut [i32], wide: &mut [i64], narrow: &mut [u32]) {
-    if kind == 2 {
-        leaves::admit(words, targets);
-        return;
+// Moves the bytes from a place to another to the front. Of a line that is too long already, enough to see that is kept.
+fn keep(bytes: &mut [u8], from: usize, to: usize) -> usize {
+    let mut k = 0;
+    let mut next = from;
+    while next < to {
+        if LONGEST < k {
+            return k;
+        }
+        if bytes.len() <= next {
+            return k;
+        }
+        bytes[k] = bytes[next];
+        k += 1;
+        next += 1;
     }
-    if kind < 7 {
-        leaf(kind, words);
-        return;
-    }
-    if kind == 11 {
-        draws::distance(words);
-        return;
-    }
-    if kind == 12 {
-        draws::generate(words, targets, narrow);
-        return;
-    }
-    if kind == 13 {
-        jobs::answer(words);
-        return;
-    }
-    graphs::answer(kind, words, targets, wide, narrow);
+    k
 }
 
-// Reads a whole part of the input, and says whether it was there.
-fn read(bytes: &mut [u8], n: usize) -> bool {
-    if bytes.len() < n {
-        return false;
-    }
-    let got = io::read_full(STDIN_FILENO, &mut bytes[..n]);
-    n <= got
+// One read behind the bytes that are held, so that a line that is typed is answered at once: how many bytes it got.
+fn read(bytes: &mut [u8]) -> usize {
+    let got = libc::read(STDIN_FILENO, bytes);
+    io::count(got, bytes)
 }
 
-// Answers one case, and says whether there was one.
-fn one(
-    bytes: &mut [u8],
-    words: &mut [u32],
-    targets: &mut [i32],
-    wide: &mut [i64],
-    narrow: &mut [u32],
-) -> bool {
-    if !read(bytes, 8) {
-        return false;
+fn read_behind(bytes: &mut [u8], held: usize) -> usize {
+    if bytes.len() < held {
+        return 0;
     }
-    let kind = input::word(bytes, 0);
-    let n = input::word(bytes, 1) as usize;
-    if words.len() < n {
-        return false;
+    read(&mut bytes[held..])
+}
+
+// Answers the whole lines of some bytes and keeps the rest.
+fn answer(bytes: &mut [u8], held: usize, got: usize) -> usize {
+    if bytes.len() < held {
+        return 0;
     }
-    if !read(bytes, n * 4) {
-        return false;
+    if bytes.len() - held < got {
+        return 0;
     }
-    input::words(bytes, words);
-    answer(kind, &words[..n], targets, wide, narrow);
-    print::end();
-    true
+    let end = held + got;
+    let from = whole_lines(&bytes[0..end]);
+    keep(bytes, from, end)
+}
+
+// The last line, where no line feed ends it.
+fn last(bytes: &[u8], held: usize) {
+    if held == 0 {
+        return;
+    }
+    if bytes.len() < held {
+        return;
+    }
+    case::of_line(&bytes[0..held]).end();
 }
 
 // A proved loop has to end, so it counts its turns down from a number that no run uses up.
-fn run(
-    bytes: &mut [u8],
-    words: &mut [u32],
-    targets: &mut [i32],
-    wide: &mut [i64],
-    narrow: &mut [u32],
-) {
+fn run(bytes: &mut [u8]) {
     let mut turns = u64::MAX;
-    while turns > 0 && one(bytes, words, targets, wide, narrow) {
+    let mut held = 0;
+    while turns > 0 {
+        let got = read_behind(bytes, held);
+        if got == 0 {
+            last(bytes, held);
+            return;
+        }
+        held = answer(bytes, held, got);
         turns -= 1;
     }
 }
 
 fn main() {
-    let mut bytes = [0u8; 4800];
-    let mut words = [0u32; 1200];
-    let mut targets = [0i32; 1200];
-    let mut wide = [0i64; 64];
-    let mut narrow = [0u32; 1200];
-    run(&mut bytes, &mut words, &mut targets, &mut wide, &mut narrow);
+    let mut bytes = [0u8; 65536];
+    run(&mut bytes);
 }

@@ -1,0 +1,51 @@
+-- `Line::all_signed` is safe and ends. Assumes nothing.
+use Prim.Native.Nat.{_≤_, _-_}
+use lib.ListN.{length}
+use borrow.Author.Needs.{needs}
+use Rattle.vectors.proofs.print.Line.all_signed.Statement.{statement}
+use Rattle.vectors.proofs.print.Line.all_signed.Tie as tie
+
+abbrev Inv-loop : tie.InvT-loop
+Inv-loop words line₀ k₀ line k = k ≤ length words
+
+abbrev μ-loop : tie.MeasureT-loop
+μ-loop words line₀ k₀ line k = length words - k
+
+loop-holds : tie.Need-loop-holds Inv-loop μ-loop
+loop-holds c = search needs
+
+mul-signed : tie.Need-mul-signed Inv-loop μ-loop
+mul-signed c = search needs
+
+shared-slice-copy-out-signed : tie.Need-shared-slice-copy-out-signed Inv-loop μ-loop
+shared-slice-copy-out-signed c = search needs
+
+signed-requires : tie.Need-signed-requires Inv-loop μ-loop
+signed-requires c κs = search needs
+
+add-k : tie.Need-add-k Inv-loop μ-loop
+add-k c = search needs
+
+loop-less : tie.Need-loop-less Inv-loop μ-loop
+loop-less c = search needs
+
+loop-again : tie.Need-loop-again Inv-loop μ-loop
+loop-again c = search needs
+
+returns : tie.Need-returns Inv-loop μ-loop
+returns c = search needs
+
+pub all-signed-spec : {M : Type 1} → statement M
+all-signed-spec =
+    tie.close
+    (tie.spec
+    Inv-loop
+    μ-loop
+    loop-holds
+    mul-signed
+    shared-slice-copy-out-signed
+    signed-requires
+    add-k
+    loop-less
+    loop-again
+    returns)
