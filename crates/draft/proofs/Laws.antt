@@ -11,18 +11,18 @@ use Rattle.meaning.specs.declared.Row.{Row}
 use Rattle.meaning.specs.Basics.{has, after}
 use Rattle.meaning.specs.Graph.{rowLength, words, flat, values}
 use Rattle.meaning.specs.Distance.{reach?}
-use Rattle.meaning.specs.Generator.{ruleC}
+use Rattle.meaning.specs.Generator.{prefixRow, ruleC}
 use Rattle.laws.proofs.Graphs.{length-flat, flat-append}
 use Rattle.laws.proofs.Steps.{rule-c-ready, rule-c-row, rule-c-end}
 use Rattle.laws.proofs.Over.{length-after, after-part, after-none}
 use Rattle.ready.specs.declared.Ready.{Ready}
 use Rattle.ready.specs.Listed.{listed, Added}
 use Rattle.ready.proofs.Laws.{grown-room}
-use Rattle.reach.specs.Marks.{Holds, State}
-use Rattle.reach.proofs.Marks.{include-is}
+use Rattle.reach.specs.Marks.{Holds, Odd, State}
+use Rattle.reach.proofs.Marks.{include-is, one-map}
 use Rattle.first_row.specs.Search.{found}
 use Rattle.first_row.specs.declared.Found.the-variants.{At, Missing}
-use Rattle.draft.specs.Growth.{Odd, Open, Grown, prefixRow, prefixRows}
+use Rattle.draft.specs.Growth.{Open, Grown, prefixRows}
 
 -- ---- what was found
 
@@ -171,3 +171,13 @@ module _ {L : ℕ} {old : Ready} {ps : List Prefix} {map before : List ℕ} (o :
     part-end h =
         subst (λ (xs : List Row). Grown L old xs new marks before now)
         (sym (append-nil (p .made)) ∙ ap (λ (l : List Row). p .made ++ l) (sym (rule-c-end (listed new) ps i h)) ∙ p .rest) (p .grown)
+
+-- ---- one answer
+
+-- any two results that the contract allows list the same values and leave the same map and the same words
+pub one-grown : {L : ℕ} {old new new′ : Ready} {xs : List Row} {map map′ before now now′ : List ℕ} → length map ≡ length map′
+    → Grown L old xs new map before now → Grown L old xs new′ map′ before now′ → (listed new ≡ listed new′) × (map ≡ map′) × (now ≡ now′)
+one-grown {L} {old} {new} {new′} {xs} {map} {map′} e g h =
+    let same : listed new′ ≡ listed new = h .lists ∙ sym (g .lists) in
+    let held : Holds map′ (λ c. reach? L (listed new) c) = subst (λ (vals : List ℕ). Holds map′ (λ c. reach? L vals c)) same (h .state .reach) in
+    (sym same, one-map map map′ (λ c. reach? L (listed new) c) e (g .state .reach) held, g .writes ∙ sym (h .writes))

@@ -3,21 +3,18 @@ use mathlib.Core.Path.{_≡_}
 use mathlib.Core.Bool.{cond}
 use mathlib.Core.List.{List, [], _∷_, _++_, List·Memᴰ}
 use mathlib.Core.Option.{Option, some, none}
-use Prim.Native.Nat.{ℕ, _+_, _-_, _*_, _%_, _^_, _≤_, _<_}
+use Prim.Native.Nat.{ℕ, _+_, _-_, _*_, _≤_}
 use lib.ListN.{length}
 use Rattle.meaning.specs.declared.Prefix.{Prefix}
 use Rattle.meaning.specs.declared.Row.{Row}
-use Rattle.meaning.specs.Basics.{has, indexFrom, after}
+use Rattle.meaning.specs.Basics.{has, after}
 use Rattle.meaning.specs.Graph.{rowLength, flat, values}
 use Rattle.meaning.specs.Digits.{prefixes}
+use Rattle.meaning.specs.Generator.{prefixRow}
 use Rattle.meaning.specs.Refusals.{mostRows}
 use Rattle.ready.specs.declared.Ready.{Ready}
 use Rattle.ready.specs.Listed.{room, listed, Fit}
-use Rattle.reach.specs.Marks.{State}
-
--- a value that a row can have
-abbrev pub Odd : ℕ → ℕ → Type 0
-Odd L v = (v % 2 ≡ 1) × (v < 2 ^ L)
+use Rattle.reach.specs.Marks.{Odd, State}
 
 -- n rows more have room
 pub record Open (L : ℕ) (set : Ready) (map out : List ℕ) (n : ℕ) : Type 0 where
@@ -40,10 +37,7 @@ abbrev pub atMostOne : Option Row → List Row
 atMostOne none = []
 atMostOne (some x) = x ∷ []
 
--- step C's row of a prefix
-abbrev pub prefixRow : List ℕ → Prefix → Row
-prefixRow vals p = record { u = indexFrom 0 vals (p .before); v = 0; l1 = p .gap; l2 = 0; s = p .s; r = 0; value = p .value }
-
+-- step C's row of a prefix, if it is not ready
 unfoldable pub prefixRows : List ℕ → Prefix → List Row
 prefixRows vals p = cond (has vals (p .value)) [] (prefixRow vals p ∷ [])
 

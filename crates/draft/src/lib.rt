@@ -9,7 +9,8 @@ ghost use lib.ListN.{length};
 ghost use Rattle.meaning.specs.Digits.{prefixes};
 ghost use Rattle.meaning.specs.Generator.{rowFor, ruleC};
 ghost use Rattle.ready.specs.Listed.{listed};
-ghost use Rattle.draft.specs.Growth.{Odd, Open, Grown, atMostOne, prefixRows, Servable};
+ghost use Rattle.reach.specs.Marks.{Odd};
+ghost use Rattle.draft.specs.Growth.{Open, Grown, atMostOne, prefixRows, Servable};
 
 // One row more.
 fn add_row(map: &mut [u8], top: u32, set: Ready, out: &mut [u32], x: Row) -> Ready

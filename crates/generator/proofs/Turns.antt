@@ -1,9 +1,9 @@
 -- The turns one after the other: the rows made so far, what the turns left make of them, and that there is room for the next. Assumes nothing.
-use mathlib.Core.Path.{_≡_, refl, sym, ap, _∙_, subst}
-use mathlib.Core.List.{List, [], _++_}
-use Prim.Native.Nat.{ℕ, zero, suc, _+_, _-_, _*_, _≤_, _<_}
+use mathlib.Core.Path.{_≡_, refl, sym, ap, _∙_, subst, subst⁻¹}
+use mathlib.Core.List.{List, [], _++_, _∷_}
+use Prim.Native.Nat.{ℕ, zero, suc, _+_, _-_, _*_, _≤_, _<_, _^_}
 use native.Mathlib.Omega.{arith}
-use lib.ListN.{length, length-append}
+use lib.ListN.{length, length-append, getD}
 use Rattle.meaning.specs.declared.Row.{Row}
 use Rattle.meaning.specs.Basics.{over, after}
 use Rattle.meaning.specs.Graph.{rowLength, flat, values, ready}
@@ -11,9 +11,30 @@ use Rattle.meaning.specs.Generator.{remaining, turn, turns}
 use Rattle.meaning.specs.Refusals.{mostRows}
 use Rattle.ready.specs.declared.Ready.{Ready}
 use Rattle.ready.specs.Listed.{listed, Started}
-use Rattle.reach.specs.Marks.{State}
+use Rattle.reach.specs.Marks.{State, Holds, Wide}
 use Rattle.draft.specs.Growth.{Open, Grown}
 use Rattle.draft.proofs.Laws.{grown-none, grown-then, open-on}
+use lib.Pow.{pow-mono}
+use Rattle.meaning.specs.Distance.{reach?}
+use Rattle.ready.proofs.Laws.{list-at}
+
+-- ---- the input alone
+
+pub start-state : (L : ℕ) (map : List ℕ) (r : Ready) → 1 ≤ L → Started r → Wide L map → Holds map (λ c. reach? L (1 ∷ []) c)
+    → State L map (r .values) (r .count)
+start-state L map r o s w h =
+    let p : 2 ≤ 2 ^ L = pow-mono {i = 1} {j = L} o in
+    let one : getD (r .values) 0 0 ≡ 1 = sym (list-at r 0 (omega (arith, s .one))) ∙ ap (λ (xs : List ℕ). getD xs 0 0) (s .list) in
+    record {
+      wide = w;
+      values = (
+        omega (arith, s .one, s .fit .places),
+        λ i l. let z : i ≡ 0 = omega (arith, s .one) in rw (z, one) (refl, omega arith),
+      );
+      reach = subst⁻¹ (λ (xs : List ℕ). Holds map (λ c. reach? L xs c)) (s .list) h;
+    }
+
+-- ---- the turns
 
 -- no turn takes rows away
 turns-grow : (L k : ℕ) (cs : List ℕ) (made : List Row) → length made ≤ length (turns L k cs made)

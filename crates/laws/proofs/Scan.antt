@@ -2,9 +2,10 @@
 use mathlib.Core.Path.{_≡_, refl, sym, ap, _∙_}
 use mathlib.Core.List.{List, [], _∷_, _++_, map}
 use mathlib.Core.Option.{Option, some, none}
-use Prim.Native.Nat.{ℕ, suc, _+_, _-_, _≤_, _<_}
+use Prim.Native.Nat.{ℕ, zero, suc, _+_, _-_, _≤_, _<_}
 use native.Mathlib.Omega.{arith}
 use native.Mathlib.Numerals.{add-one}
+use lib.ListN.{length}
 use Rattle.meaning.specs.Basics.{upFrom, firstSome}
 
 -- the one, or else the other
@@ -47,10 +48,18 @@ first-map f g (x ∷ xs) =
 
 -- ---- over the numbers from k on below e
 
-up-split : (k e : ℕ) → k < e → upFrom k (e - k) ≡ k ∷ upFrom (k + 1) (e - (k + 1))
+pub up-split : (k e : ℕ) → k < e → upFrom k (e - k) ≡ k ∷ upFrom (k + 1) (e - (k + 1))
 up-split k e h =
     let n : e - k ≡ suc (e - (k + 1)) = omega arith in
     ap (upFrom k) n ∙ ap (λ j. k ∷ upFrom j (e - (k + 1))) (sym (add-one k))
+
+pub up-length : (k n : ℕ) → length (upFrom k n) ≡ n
+up-length k zero = refl
+up-length k (suc n) = ap suc (up-length (suc k) n)
+
+pub up-more : (k n : ℕ) → upFrom k n ++ ((k + n) ∷ []) ≡ upFrom k (suc n)
+up-more k zero = ap (λ (j : ℕ). j ∷ []) (omega arith)
+up-more k (suc n) = ap (λ (l : List ℕ). k ∷ l) (ap (λ (j : ℕ). upFrom (suc k) n ++ (j ∷ [])) (omega arith) ∙ up-more (suc k) n)
 
 module _ {κ} {B : Type κ} (f : ℕ → Option B) (k e : ℕ) where
   pub scan-miss : k < e → f k ≡ none → firstSome f (upFrom k (e - k)) ≡ firstSome f (upFrom (k + 1) (e - (k + 1)))

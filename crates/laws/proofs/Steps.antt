@@ -3,16 +3,16 @@ use mathlib.Core.Path.{_≡_, refl, sym, ap, _∙_}
 use mathlib.Core.Bool.{Bool, true, false, cond}
 use mathlib.Core.List.{List, [], _∷_, _++_}
 use mathlib.Core.Option.{Option, some, none}
-use Prim.Native.Nat.{ℕ, zero, suc, _+_, _≤_, _<_}
+use Prim.Native.Nat.{ℕ, _+_, _≤_, _<_}
 use native.Mathlib.Numerals.{add-one}
 use native.Mathlib.Omega.{arith}
 use lib.ListN.{length, getD, drop, drop-of-length-le}
 use lib.Seq.{drop-cons}
 use Rattle.meaning.specs.declared.Prefix.{Prefix}
 use Rattle.meaning.specs.declared.Row.{Row}
-use Rattle.meaning.specs.Basics.{has, indexFrom, firstSome, andThen}
+use Rattle.meaning.specs.Basics.{has, firstSome, andThen}
 use Rattle.meaning.specs.Distance.{reach?}
-use Rattle.meaning.specs.Generator.{rowFor, remaining, ruleA, ruleC}
+use Rattle.meaning.specs.Generator.{rowFor, remaining, ruleA, prefixRow, ruleC}
 use Rattle.laws.proofs.Choices.{got, got-row}
 
 -- ---- step A
@@ -71,10 +71,6 @@ unfolding remaining
 remaining-end vals cs i h = rw (drop-of-length-le cs h)
 
 -- ---- step C, prefix by prefix
-
--- the row of a prefix
-abbrev pub prefixRow : List ℕ → Prefix → Row
-prefixRow vals p = record { u = indexFrom 0 vals (p .before); v = 0; l1 = p .gap; l2 = 0; s = p .s; r = 0; value = p .value }
 
 pub rule-c-ready : (vals : List ℕ) (ps : List Prefix) (i : ℕ) (d : Prefix) → i < length ps → has vals (getD ps i d .value) ≡ true
     → ruleC vals (drop i ps) ≡ ruleC vals (drop (i + 1) ps)

@@ -59,12 +59,13 @@ unfoldable pub ruleB : ℕ → List ℕ → List ℕ → Option (List Row)
 ruleB L vals cs = firstSome (serve L vals) (trials L cs)
 
 -- C: a row for each prefix that is not yet ready, from the prefix before it
+abbrev pub prefixRow : List ℕ → Prefix → Row
+prefixRow vals p = record { u = indexFrom 0 vals (p .before); v = 0; l1 = p .gap; l2 = 0; s = p .s; r = 0; value = p .value }
+
 unfoldable pub ruleC : List ℕ → List Prefix → List Row
 ruleC vals [] = []
 ruleC vals (p ∷ ps) =
-    cond (has vals (p .value)) (ruleC vals ps)
-    (record { u = indexFrom 0 vals (p .before); v = 0; l1 = p .gap; l2 = 0; s = p .s; r = 0; value = p .value }
-    ∷ ruleC (vals ++ (p .value ∷ [])) ps)
+    cond (has vals (p .value)) (ruleC vals ps) (prefixRow vals p ∷ ruleC (vals ++ (p .value ∷ [])) ps)
 
 unfoldable pub orRows : Option (List Row) → List Row → List Row
 orRows none other = other

@@ -9,7 +9,7 @@ use native.Mathlib.Numerals.{add-one}
 use lib.Dec.{T, eqb}
 use lib.ListN.{length, getD, set, take, replicate, length-set, length-replicate, getD-replicate}
 use lib.Pow.{pow-mono}
-use lib.Seq.{getD-set-same, getD-set-other, take-suc-set}
+use lib.Seq.{getD-set-same, getD-set-other, take-suc-set, ext-getD}
 use Rattle.meaning.specs.Basics.{zeros}
 use Rattle.meaning.specs.Operation.{size}
 use Rattle.meaning.specs.Distance.{oneOp?, reach?}
@@ -193,3 +193,7 @@ include-is L map new vals n v s h o l e r =
     at : (i : ℕ) → i < n + 1 → Dec (i ≡ n) → (getD (set vals n v) i 0 % 2 ≡ 1) × (getD (set vals n v) i 0 < 2 ^ L)
     at i j (yes q) = rw (q, getD-set-same vals n v 0 h) (o, l)
     at i j (no q) = rw (getD-set-other vals n i v 0 q) (s .values .1 i (omega arith))
+
+-- any two maps of one length that hold the same numbers are equal
+pub one-map : (a b : List ℕ) (P : ℕ → Bool) → length a ≡ length b → Holds a P → Holds b P → a ≡ b
+one-map a b P e h k = ext-getD 0 a b e (λ i l. h .bits i l ∙ sym (k .bits i (omega arith)))

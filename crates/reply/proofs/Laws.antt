@@ -2,7 +2,7 @@
 use mathlib.Core.Path.{_≡_, refl, sym, ap, _∙_}
 use mathlib.Core.Bool.{true, false}
 use mathlib.Core.List.{List, [], _∷_, _++_}
-use Prim.Native.Nat.{ℕ, zero, suc, _+_, _≤_, _<_}
+use Prim.Native.Nat.{ℕ, _+_, _≤_, _<_}
 use native.Mathlib.Numerals.{add-one}
 use native.Mathlib.Omega.{arith}
 use lib.Dec.{leb, le→leb}
@@ -20,6 +20,7 @@ use Rattle.laws.proofs.Stages.{passes-on, of-need}
 use Rattle.meaning.specs.Basics.{upFrom, over}
 use Rattle.meaning.specs.Job.{natural}
 use Rattle.laws.proofs.Over.{over-at}
+use Rattle.laws.proofs.Scan.{up-length, up-more}
 
 pub below-zero : (z : ℤ) → ltZ z (pos 0) ≡ true → 0 ≡ natural z
 below-zero (pos n) e = absurd (let h : n < 0 = ltb-true n 0 e in omega arith)
@@ -41,14 +42,6 @@ unfolding rankingWritten
 ranked-written b ts n w input room e h = ap (λ (a : Answer). given a (ranking input (rows n w))) (ranked-all b ts n w input room e h)
 
 -- ---- row numbers
-
-pub up-length : (k n : ℕ) → length (upFrom k n) ≡ n
-up-length k zero = refl
-up-length k (suc n) = ap suc (up-length (suc k) n)
-
-up-more : (k n : ℕ) → upFrom k n ++ ((k + n) ∷ []) ≡ upFrom k (suc n)
-up-more k zero = ap (λ (j : ℕ). j ∷ []) (omega arith)
-up-more k (suc n) = ap (λ (l : List ℕ). k ∷ l) (ap (λ (j : ℕ). upFrom (suc k) n ++ (j ∷ [])) (omega arith) ∙ up-more (suc k) n)
 
 pub counted : (order now : List ℕ) (i : ℕ) → i < length order → now ≡ over (upFrom 1 i) order → set now i (i + 1) ≡ over (upFrom 1 (i + 1)) order
 counted order now i h e =

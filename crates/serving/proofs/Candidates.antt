@@ -10,17 +10,12 @@ use lib.ListN.{take}
 use lib.Pow.{pow-pos}
 use Rattle.meaning.specs.Basics.{upFrom, firstSome}
 use Rattle.meaning.specs.Distance.{candidates}
-use Rattle.laws.proofs.Scan.{first-none, first-some}
+use Rattle.laws.proofs.Scan.{first-none, first-some, up-split}
 use Rattle.serving.specs.declared.Choice.the-variants.{At, Nothing}
 use Rattle.serving.specs.Choices.{used, pick}
 use Rattle.serving.proofs.Scan.{used-none, used-some}
 
 -- ---- a search over 1 .. e - 1
-
-split : (k e : ℕ) → k < e → upFrom k (e - k) ≡ k ∷ upFrom (k + 1) (e - (k + 1))
-split k e h =
-    let n : e - k ≡ suc (e - (k + 1)) = omega arith in
-    ap (upFrom k) n ∙ ap (λ (j : ℕ). k ∷ upFrom j (e - (k + 1))) (sym (add-one k))
 
 -- where the scan stands: at k, after t trials, of 1 .. e - 1
 pub record Scan (f : ℕ → Option ℕ) (e k t : ℕ) : Type 0 where
@@ -36,7 +31,7 @@ module _ (f : ℕ → Option ℕ) (e : ℕ) where
 
   pub scan-pass : (k t : ℕ) → Scan f e k t → k < e → f k ≡ none → Scan f e (k + 1) (t + 1)
   scan-pass k t s h n =
-      let p = split k e h in
+      let p = up-split k e h in
       let u : used f (upFrom k (e - k)) ≡ suc (used f (upFrom (k + 1) (e - (k + 1)))) = ap (used f) p ∙ used-none f k _ n in
       record {
         from = omega arith;
@@ -48,7 +43,7 @@ module _ (f : ℕ → Option ℕ) (e : ℕ) where
 
   pub scan-hit : (k t b : ℕ) → Scan f e k t → k < e → f k ≡ some b → At b (t + 1) ≡ pick (firstSome f (upFrom 1 (e - 1))) (used f (upFrom 1 (e - 1)))
   scan-hit k t b s h n =
-      let p = split k e h in
+      let p = up-split k e h in
       sym (ap₂ pick (s .first ∙ ap (firstSome f) p ∙ first-some f k _ b n) (s .uses ∙ ap (λ (x : ℕ). t + x) (ap (used f) p ∙ used-some f k _ b n)))
 
   pub scan-end : (k t : ℕ) → Scan f e k t → e ≤ k → Nothing t ≡ pick (firstSome f (upFrom 1 (e - 1))) (used f (upFrom 1 (e - 1)))

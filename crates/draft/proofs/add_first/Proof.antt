@@ -5,7 +5,8 @@ use Rattle.meaning.specs.declared.Row.{Row}
 use Rattle.meaning.specs.Generator.{rowFor}
 use Rattle.laws.proofs.Choices.{row-from}
 use Rattle.ready.specs.Listed.{listed}
-use Rattle.draft.specs.Growth.{Odd, Grown, atMostOne}
+use Rattle.reach.specs.Marks.{Odd}
+use Rattle.draft.specs.Growth.{Grown, atMostOne}
 use Rattle.draft.proofs.Laws.{missing-is, found-is, grown-none}
 use borrow.Author.Needs.{needs}
 use Rattle.draft.proofs.add_first.Statement.{statement}

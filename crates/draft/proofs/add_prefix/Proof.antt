@@ -5,7 +5,8 @@ use Prim.Native.Nat.{ℕ}
 use lib.ListN.{length}
 use Rattle.meaning.specs.declared.Row.{Row}
 use Rattle.ready.specs.Listed.{listed}
-use Rattle.draft.specs.Growth.{Open, Grown, prefixRow, prefixRows}
+use Rattle.meaning.specs.Generator.{prefixRow}
+use Rattle.draft.specs.Growth.{Open, Grown, prefixRows}
 use Rattle.draft.proofs.Laws.{prefix-ready, prefix-new, grown-none}
 use borrow.Author.Needs.{needs}
 use Rattle.draft.proofs.add_prefix.Statement.{statement}

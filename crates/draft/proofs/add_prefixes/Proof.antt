@@ -11,7 +11,8 @@ use Rattle.digits.specs.declared.Prefixes.{Prefixes}
 use Rattle.digits.specs.Held.{nothing, prefixesHeld}
 use Rattle.digits.proofs.Laws.{held-count, held-at}
 use Rattle.ready.specs.Listed.{listed}
-use Rattle.draft.specs.Growth.{Odd, Open, Grown, prefixRows}
+use Rattle.reach.specs.Marks.{Odd}
+use Rattle.draft.specs.Growth.{Open, Grown, prefixRows}
 use Rattle.draft.proofs.Laws.{Part, part-start, part-open, part-more, part-end}
 use Rattle.draft.proofs.add_prefixes.Statement.{statement}
 use Rattle.draft.proofs.add_prefixes.Tie as tie

@@ -12,7 +12,7 @@ use Rattle.laws.proofs.Remaining.{remaining-in}
 use Rattle.constants.specs.Held.{kept}
 use Rattle.ready.specs.Listed.{listed}
 use Rattle.draft.specs.Growth.{Open, Grown}
-use Rattle.generator.specs.Rule.{AllServable}
+use Rattle.rule.specs.Rule.{AllServable}
 use Rattle.generator.proofs.Turns.{started-open, Turned, turned-start, turned-open, turned-more, turned-end, from-front}
 use Rattle.generator.proofs.draw.Statement.{statement}
 use Rattle.generator.proofs.draw.Tie as tie

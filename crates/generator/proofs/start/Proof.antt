@@ -6,7 +6,7 @@ use native.Mathlib.Omega.{arith}
 use borrow.Author.Needs.{needs}
 use lib.Pow.{pow-mono}
 use Rattle.reach.proofs.Marks.{none-ready}
-use Rattle.generator.proofs.Laws.{start-state}
+use Rattle.generator.proofs.Turns.{start-state}
 use Rattle.generator.proofs.start.Statement.{statement}
 use Rattle.generator.proofs.start.Tie as tie
 

@@ -9,12 +9,12 @@ use Rattle.meaning.specs.Distance.{reach?}
 use Rattle.meaning.specs.Generator.{rowFor, ruleB}
 use Rattle.constants.specs.declared.Wanted.{Wanted}
 use Rattle.constants.specs.Held.{kept}
-use Rattle.reach.specs.Marks.{marked}
-use Rattle.draft.specs.Growth.{Odd, Servable, atMostOne}
-use Rattle.generator.specs.declared.Near.{Near}
-use Rattle.generator.specs.declared.Near.the-variants as near
-use Rattle.generator.specs.declared.Chosen.{Chosen}
-use Rattle.generator.specs.declared.Chosen.the-variants as chosen
+use Rattle.reach.specs.Marks.{marked, Odd}
+use Rattle.draft.specs.Growth.{Servable, atMostOne}
+use Rattle.rule.specs.declared.Near.{Near}
+use Rattle.rule.specs.declared.Near.the-variants as near
+use Rattle.rule.specs.declared.Chosen.{Chosen}
+use Rattle.rule.specs.declared.Chosen.the-variants as chosen
 
 -- the array holds as many constants as are counted
 pub record Lists (w : Wanted) (cs : List ℕ) : Type 0 where

@@ -7,10 +7,10 @@ use native.Mathlib.Omega.{arith}
 use borrow.Author.Needs.{needs}
 use lib.ListN.{length, getD, drop, drop-of-length-le}
 use Rattle.constants.specs.Held.{kept}
-use Rattle.generator.specs.Rule.{firstMarked}
-use Rattle.generator.proofs.Laws.{kept-in, kept-next, kept-end, marked-hit, marked-miss, marked-end}
-use Rattle.generator.proofs.nearest.Statement.{statement}
-use Rattle.generator.proofs.nearest.Tie as tie
+use Rattle.rule.specs.Rule.{firstMarked}
+use Rattle.rule.proofs.Laws.{kept-in, kept-next, kept-end, marked-hit, marked-miss, marked-end}
+use Rattle.rule.proofs.nearest.Statement.{statement}
+use Rattle.rule.proofs.nearest.Tie as tie
 
 abbrev Inv-loop : tie.InvT-loop
 Inv-loop map w i₀ i = (i ≤ w .count) × (firstMarked map (kept w) ≡ firstMarked map (drop i (kept w)))

@@ -10,9 +10,9 @@ use lib.ListN.{length}
 use Rattle.constants.specs.declared.Wanted.{Wanted}
 use Rattle.constants.specs.Held.{kept}
 use Rattle.ready.specs.Listed.{listed}
-use Rattle.generator.proofs.Laws.{kept-inside, kept-at, kept-end, Sifted, sift-start, sift-ready, sift-left, sift-end}
-use Rattle.generator.proofs.left.Statement.{statement}
-use Rattle.generator.proofs.left.Tie as tie
+use Rattle.rule.proofs.Laws.{kept-inside, kept-at, kept-end, Sifted, sift-start, sift-ready, sift-left, sift-end}
+use Rattle.rule.proofs.left.Statement.{statement}
+use Rattle.rule.proofs.left.Tie as tie
 
 abbrev Inv-loop : tie.InvT-loop
 Inv-loop set w r₀ i₀ r i = (i ≤ w .count) × Sifted (listed set) (kept w) r i

@@ -13,11 +13,11 @@ use Rattle.constants.specs.Held.{kept}
 use Rattle.ready.specs.Listed.{listed}
 use Rattle.draft.specs.Growth.{Open, Grown, atMostOne}
 use Rattle.draft.proofs.Laws.{grown-none, grown-then, open-on, open-less}
-use Rattle.generator.specs.declared.Chosen.{Chosen}
-use Rattle.generator.specs.Rule.{Serves, Picked, NoneNear}
-use Rattle.generator.proofs.Laws.{kept-at, kept-inside, kept-in, kept-nothing, Nearest, near-inside, near-at, near-nothing, row-value, turn-none, turn-a, turn-b, turn-c, turn-two}
-use Rattle.generator.proofs.turn.Statement.{statement}
-use Rattle.generator.proofs.turn.Tie as tie
+use Rattle.rule.specs.declared.Chosen.{Chosen}
+use Rattle.rule.specs.Rule.{Serves, Picked, NoneNear}
+use Rattle.rule.proofs.Laws.{kept-at, kept-inside, kept-in, kept-nothing, Nearest, near-inside, near-at, near-nothing, row-value, turn-none, turn-a, turn-b, turn-c, turn-two}
+use Rattle.rule.proofs.turn.Statement.{statement}
+use Rattle.rule.proofs.turn.Tie as tie
 
 places : (c : tie.Start) → length (c .args .t5 .values) ≡ 16
 places c = search needs

@@ -23,18 +23,15 @@ use Rattle.laws.proofs.Steps.{near as reached, rule-a-is, remaining-ready, rema
 use Rattle.constants.specs.declared.Wanted.{Wanted}
 use Rattle.constants.specs.Held.{kept}
 use Rattle.draft.specs.Growth.{atMostOne}
-use Rattle.ready.specs.declared.Ready.{Ready}
-use Rattle.ready.specs.Listed.{Started}
-use Rattle.ready.proofs.Laws.{list-at}
 use Rattle.serving.specs.declared.Choice.{Choice}
 use Rattle.serving.specs.declared.Choice.the-variants.{At, Nothing}
 use Rattle.serving.specs.Choices.{chosenIn}
-use Rattle.reach.specs.Marks.{Holds, marked, Wide, State}
+use Rattle.reach.specs.Marks.{marked, State}
 use Rattle.reach.proofs.Marks.{reached-is}
 use Rattle.serving.proofs.RuleB.{Served, b-empty, b-nothing, b-at, at-served}
-use Rattle.generator.specs.declared.Near.{Near}
-use Rattle.generator.specs.declared.Near.the-variants as near
-use Rattle.generator.specs.Rule.{Lists, AllServable, firstMarked, Serves, NoneNear}
+use Rattle.rule.specs.declared.Near.{Near}
+use Rattle.rule.specs.declared.Near.the-variants as near
+use Rattle.rule.specs.Rule.{Lists, AllServable, firstMarked, Serves, NoneNear}
 
 -- ---- the constants kept, one after the other
 
@@ -57,22 +54,6 @@ module _ (w : Wanted) (i : ℕ) (places : length (w .values) ≡ 16) (bound : w 
 
   pub kept-next : drop i (kept w) ≡ getD (w .values) i 0 ∷ drop (i + 1) (kept w)
   kept-next = rw (drop-cons (kept w) i 0 kept-inside, kept-at w i h, add-one i)
-
--- ---- the input alone
-
-pub start-state : (L : ℕ) (map : List ℕ) (r : Ready) → 1 ≤ L → Started r → Wide L map → Holds map (λ c. reach? L (1 ∷ []) c)
-    → State L map (r .values) (r .count)
-start-state L map r o s w h =
-    let p : 2 ≤ 2 ^ L = pow-mono {i = 1} {j = L} o in
-    let one : getD (r .values) 0 0 ≡ 1 = sym (list-at r 0 (omega (arith, s .one))) ∙ ap (λ (xs : List ℕ). getD xs 0 0) (s .list) in
-    record {
-      wide = w;
-      values = (
-        omega (arith, s .one, s .fit .places),
-        λ i l. let z : i ≡ 0 = omega (arith, s .one) in rw (z, one) (refl, omega arith),
-      );
-      reach = subst⁻¹ (λ (xs : List ℕ). Holds map (λ c. reach? L xs c)) (s .list) h;
-    }
 
 -- ---- those that are left
 

@@ -10,9 +10,9 @@ use Rattle.meaning.specs.Generator.{ruleB}
 use Rattle.constants.specs.Held.{kept}
 use Rattle.ready.specs.Listed.{listed}
 use Rattle.serving.proofs.RuleB.{b-empty}
-use Rattle.generator.proofs.Laws.{kept-in, kept-next, kept-end, picked-at, picked-none, ceiling}
-use Rattle.generator.proofs.pick.Statement.{statement}
-use Rattle.generator.proofs.pick.Tie as tie
+use Rattle.rule.proofs.Laws.{kept-in, kept-next, kept-end, picked-at, picked-none, ceiling}
+use Rattle.rule.proofs.pick.Statement.{statement}
+use Rattle.rule.proofs.pick.Tie as tie
 
 abbrev Inv-loop : tie.InvT-loop
 Inv-loop map top set w i₀ i = (i ≤ w .count) × (ruleB top (listed set) (kept w) ≡ ruleB top (listed set) (drop i (kept w)))
