@@ -1,6 +1,6 @@
 /* The library's calls in plain C, to hold its speed to; those on a graph are in graphs.h. The search has a byte for each odd
-   number that one operation reaches, kept from row to row; a second map of the values that would serve a constant; and one
-   scan for the first in both. */
+   number that one operation reaches, kept from row to row; the values that would serve a constant are looked up in it, and
+   the smallest is kept. */
 #include "cases.h"
 #include "graphs.h"
 
@@ -23,11 +23,15 @@ static inline void mark(uint8_t *map, uint32_t top, uint64_t n)
         map[n / 2] = 1;
 }
 
-/* All results of operations on u as it is and v shifted. */
+/* All results of operations on u as it is and v shifted: both are odd, so once even the difference is not below 2^top,
+   nothing more comes. */
 static inline void mark_side(uint8_t *map, uint32_t top, uint64_t u, uint64_t v)
 {
+    uint64_t far = u + ((uint64_t)1 << top);
     for (uint32_t l = 0; l <= top; l++) {
         uint64_t a = v << l;
+        if (a >= far)
+            return;
         mark(map, top, u + a);
         mark(map, top, u < a ? a - u : u - a);
     }
@@ -38,18 +42,6 @@ static void mark_with_each(uint8_t *map, const Set *set, uint32_t v)
     for (int i = 0; i < set->count; i++) {
         mark_side(map, set->top, v, set->value[i]);
         mark_side(map, set->top, set->value[i], v);
-    }
-}
-
-/* The values from which, taken twice, one operation gives c. */
-static void mark_twice(uint8_t *map, uint32_t top, uint32_t c)
-{
-    for (uint32_t l = 1; l <= top; l++) {
-        uint32_t less = (1u << l) - 1, more = (1u << l) + 1;
-        if (c % less == 0)
-            map[c / less / 2] = 1;
-        if (c % more == 0)
-            map[c / more / 2] = 1;
     }
 }
 
@@ -72,33 +64,54 @@ static int reached(const Set *set, uint32_t c)
     return set->reach[c / 2];
 }
 
-/* The first odd number, from a place of the maps on, that both have marked, or 0. Eight bytes are looked at together. */
-static uint32_t first_in_both(const uint8_t *a, const uint8_t *b, uint32_t from, uint32_t end)
+/* m, if it is reached, not below low and below best; otherwise best. */
+static inline uint32_t lower(const Set *set, uint64_t m, uint32_t low, uint32_t best)
 {
-    uint32_t k = from;
-    for (; k + 8 <= end; k += 8) {
-        uint64_t x, y;
-        memcpy(&x, a + k, 8);
-        memcpy(&y, b + k, 8);
-        if (x & y)
-            break;
-    }
-    for (; k < end; k++)
-        if (a[k] & b[k])
-            return 2 * k + 1;
-    return 0;
+    return m < low || m >= best || !set->reach[m / 2] ? best : (uint32_t)m;
 }
 
-/* The smallest value, from a place of the maps on, that one operation reaches and that serves c, or 0. The operation is
-   symmetric, so a value that makes c with a ready one is a value that c makes with it. */
-static uint32_t server(const Set *set, uint32_t c, uint32_t from)
+static inline uint32_t look(const Set *set, uint64_t n, uint32_t low, uint32_t best)
 {
-    uint8_t serve[PLACES];
-    uint32_t end = 1u << (set->top - 1);
-    memset(serve, 0, end);
-    mark_with_each(serve, set, c);
-    mark_twice(serve, set->top, c);
-    return first_in_both(set->reach, serve, from, end);
+    return n == 0 ? best : lower(set, n >> __builtin_ctzll(n), low, best);
+}
+
+static inline uint32_t look_side(const Set *set, uint64_t u, uint64_t v, uint32_t low, uint32_t best)
+{
+    uint64_t far = u + ((uint64_t)1 << set->top);
+    for (uint32_t l = 0; l <= set->top; l++) {
+        uint64_t a = v << l;
+        if (a >= far)
+            return best;
+        best = look(set, u + a, low, best);
+        best = look(set, u < a ? a - u : u - a, low, best);
+    }
+    return best;
+}
+
+/* The values from which, taken twice, one operation gives c. */
+static uint32_t look_twice(const Set *set, uint32_t c, uint32_t low, uint32_t best)
+{
+    for (uint32_t l = 1; l <= set->top; l++) {
+        uint32_t less = (1u << l) - 1, more = (1u << l) + 1;
+        if (c % less == 0)
+            best = lower(set, c / less, low, best);
+        if (c % more == 0)
+            best = lower(set, c / more, low, best);
+    }
+    return best;
+}
+
+/* The smallest value, not below low, that one operation reaches and that serves c, or 0. The operation is symmetric, so a
+   value that makes c with a ready one is a value that c makes with it. */
+static uint32_t server(const Set *set, uint32_t c, uint32_t low)
+{
+    uint32_t none = 1u << set->top, best = none;
+    for (int i = 0; i < set->count; i++) {
+        best = look_side(set, c, set->value[i], low, best);
+        best = look_side(set, set->value[i], c, low, best);
+    }
+    best = look_twice(set, c, low, best);
+    return best < none ? best : 0;
 }
 
 static int distance(uint32_t b, const uint32_t *ready, int count, uint32_t target)
@@ -111,7 +124,7 @@ static int distance(uint32_t b, const uint32_t *ready, int count, uint32_t targe
         include(&set, ready[i]);
     if (reached(&set, target))
         return 1;
-    return server(&set, target, 0) ? 2 : 3;
+    return server(&set, target, 1) ? 2 : 3;
 }
 
 typedef struct {
@@ -175,7 +188,7 @@ static void turn(Set *set, uint32_t *out, const uint32_t *left, int count)
             return;
         }
     for (int i = 0; i < count; i++) {
-        uint32_t s = server(set, left[i], 1);
+        uint32_t s = server(set, left[i], 3);
         if (s) {
             add_first(set, out, s);
             add_first(set, out, left[i]);
