@@ -1,13 +1,14 @@
-"""The cases that are timed. A job is a name, its cases, and whether the naive search can finish it."""
+"""The cases that are timed, as lines of tests/README.md. A job is a name, its cases, and whether the naive search can finish
+it."""
 
 import random
-import struct
 from collections import namedtuple
 
 Job = namedtuple("Job", "name cases naive")
 
-DISTANCE, GENERATE = 11, 12
 ROOM = 896
+ROWS = 128
+TARGETS = 16
 
 # Climbed to from random lists, one or two constants changed at a time, by the bytes scanned and the pairs tried: most of its
 # constants stay beyond for most of its turns, so that nearly every scan runs to the end of the maps.
@@ -16,17 +17,39 @@ HARDEST = [
 ]
 
 
-def case(kind, words):
-    """Little-endian words behind the kind and their number, as the vectors program reads them."""
-    return struct.pack(f"<{2 + len(words)}I", kind, len(words), *words)
+def case(*parts):
+    return " ".join(map(str, parts))
 
 
 def generate(b, targets):
-    return case(GENERATE, [b, ROOM, *targets])
+    return case("generate", b, ROOM, *targets)
 
 
 def distance(b, target, ready):
-    return case(DISTANCE, [b, target, *ready])
+    return case("distance", b, target, *ready)
+
+
+def row(rng, b, values):
+    """A valid row on top of these values, drawn until one is valid."""
+    while True:
+        u, v, s = rng.randrange(len(values)), rng.randrange(len(values)), rng.randrange(2)
+        l1, l2 = rng.choice([(0, rng.randrange(b + 2)), (rng.randrange(b + 2), 0)])
+        n = abs((values[u] << l1) + (-1) ** s * (values[v] << l2))
+        r = (n & -n).bit_length() - 1
+        if n and n >> r < 2 << b:
+            return [u, v, l1, l2, s, r, n >> r]
+
+
+def graph(rng, b):
+    """b, as many targets as a list may have and as many rows as a graph, as check takes them. The targets come from
+    anywhere in the rows."""
+    values, words = [1], []
+    while len(values) <= ROWS:
+        words += row(rng, b, values)
+        values.append(words[-1])
+    odds = [v for v in values if 1 < v < 1 << b]
+    targets = [rng.choice([1, -1]) * rng.choice(odds) << rng.randrange(32 - b) for _ in range(TARGETS)]
+    return [b, TARGETS, *targets, ROWS, *words]
 
 
 def nonzero_digits(n):
@@ -71,3 +94,9 @@ def jobs():
     yield Job("distance, b 16, 129 ready, any", near(rng, 16, 129, 16), False)
     yield Job("distance, b 16, 4 ready, beyond", beyond(rng, 16, 4, 4), True)
     yield Job("distance, b 8, 8 ready, beyond", beyond(rng, 8, 8, 16), True)
+    graphs = [graph(rng, 16) for _ in range(16)]
+    name = f"b 16, {ROWS} rows, {TARGETS} targets"
+    yield Job(f"check, {name}", [case("check", *g) for g in graphs], False)
+    yield Job(f"products, {name}", [case("products", -12345678, TARGETS, *g) for g in graphs], False)
+    yield Job(f"widths, {name}", [case("widths", 24, ROWS + TARGETS, *g) for g in graphs], False)
+    yield Job(f"ranking, {name}", [case("ranking", 24, ROWS, *g) for g in graphs], False)

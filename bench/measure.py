@@ -1,8 +1,9 @@
 """Times three programs on the same jobs and prints a table: measure.py FOLDER RUNS OURS PEER NAIVE.
 
-A command is one word of this program's arguments, its own words divided by spaces. A time is the best of some runs of the
-whole program, its start, reading and printing too; nothing is subtracted. It is processor time, since another process may
-hold the machine. The exit status is 0 if the answers are equal."""
+A command is one word of this program's arguments, its own words divided by spaces. Every line is read once and its call made
+so often that a run of all lines takes about a second. A time is the best of some runs of the whole program, its start,
+reading and printing too; nothing is subtracted. It is processor time, since another process may hold the machine. The exit
+status is 0 if the answers are equal."""
 
 import os
 import shlex
@@ -27,17 +28,18 @@ def run(command, cases, answers):
 
 
 def write(folder, name, cases, times):
+    """Each case with its call made so often."""
     path = folder / name
-    path.write_bytes(b"".join(cases) * times)
+    path.write_text("".join(f"times {times} {case}\n" for case in cases))
     return path
 
 
 def enough(folder, command, cases):
-    """How often the cases have to come in a file for a run of about a second."""
+    """How often the calls have to be made for a run of about a second."""
     times, took = 1, 0.0
     while took < SECONDS / 4:
-        times = times * 2 if took else 1
         took = run(command, write(folder, "cases", cases, times), "/dev/null")
+        times *= 1 if took >= SECONDS / 4 else 4
     return max(1, round(times * SECONDS / took))
 
 
@@ -48,7 +50,7 @@ def same(folder, commands, cases):
         path = folder / f"answers{place}"
         run(command, cases, path)
         answers.append(path.read_bytes())
-    return all(a == answers[0] for a in answers) and answers[0].count(b"\n") > 0
+    return all(a == answers[0] for a in answers) and answers[0].strip() and b"bad" not in answers[0]
 
 
 def settled(times):
@@ -66,7 +68,7 @@ def best(commands, cases, runs):
 
 
 def timed(folder, runs, job, commands):
-    """Microseconds a call of each program, over a file that takes the first of them about a second."""
+    """Microseconds a call of each program, over calls that take the first of them about a second."""
     times = enough(folder, commands[0], job.cases)
     cases = write(folder, "cases", job.cases, times)
     return [1e6 * took / (times * len(job.cases)) for took in best(commands, cases, runs)]

@@ -1,6 +1,8 @@
-/* The library's search in plain C, to hold its speed to: a byte for each odd number that one operation reaches, kept
-   from row to row; a second map of the values that would serve a constant; and one scan for the first in both. */
+/* The library's calls in plain C, to hold its speed to; those on a graph are in graphs.h. The search has a byte for each odd
+   number that one operation reaches, kept from row to row; a second map of the values that would serve a constant; and one
+   scan for the first in both. */
 #include "cases.h"
+#include "graphs.h"
 
 enum { PLACES = 65536 };
 
@@ -99,14 +101,6 @@ static uint32_t server(const Set *set, uint32_t c, uint32_t from)
     return first_in_both(set->reach, serve, from, end);
 }
 
-static int in(const uint32_t *values, int count, uint32_t v)
-{
-    for (int i = 0; i < count; i++)
-        if (values[i] == v)
-            return 1;
-    return 0;
-}
-
 static int distance(uint32_t b, const uint32_t *ready, int count, uint32_t target)
 {
     Set set;
@@ -172,27 +166,6 @@ static void add_first(Set *set, uint32_t *out, uint32_t c)
         add_row(set, out, &row);
 }
 
-static uint32_t index_of(const Set *set, uint32_t v)
-{
-    uint32_t i = 0;
-    while (set->value[i] != v)
-        i++;
-    return i;
-}
-
-/* The prefixes of c in canonic form, shortest first: c without its last digit has the prefixes before c. */
-static void add_prefixes(Set *set, uint32_t *out, uint32_t c)
-{
-    if (c == 1)
-        return;
-    uint32_t s = c % 4 == 3, rest = s ? c + 1 : c - 1, gap = (uint32_t)__builtin_ctz(rest);
-    add_prefixes(set, out, rest >> gap);
-    if (in(set->value, set->count, c))
-        return;
-    Row row = {{index_of(set, rest >> gap), 0, gap, 0, s, 0, c}};
-    add_row(set, out, &row);
-}
-
 /* One turn of the rule, for constants that are not ready. */
 static void turn(Set *set, uint32_t *out, const uint32_t *left, int count)
 {
@@ -209,7 +182,9 @@ static void turn(Set *set, uint32_t *out, const uint32_t *left, int count)
             return;
         }
     }
-    add_prefixes(set, out, left[0]);
+    Row row;
+    while (prefix_row(set->value, set->count, left[0], row.word))
+        add_row(set, out, &row);
 }
 
 static int without_ready(const Set *set, uint32_t *left, int count)

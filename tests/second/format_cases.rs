@@ -76,7 +76,10 @@ fn good_and_spoiled(book: &mut Book) {
             bad(book, "bad times", format!("times {times} {line}"));
         }
     }
-    for line in ["times", "times ", "times 3", "times 3 ", "times 3 x", "bad", "0 0", " ", "", "\0"] {
+    for line in ["times", "times ", "times 3", "times 3 ", "times 3 x", "times 2 job", "times 2 job x"] {
+        bad(book, "bad times", line);
+    }
+    for line in ["bad", "0 0", " ", "", "\0", "jobs", "job\tx"] {
         bad(book, "other lines", line);
     }
     for line in ["check 8", "check 8 0", "check 8 2 3", "check 8 2 3 0", "products 1 1 8 1", "row 8"] {

@@ -1,105 +1,92 @@
 // One line: the call's name and its numbers or its text, and the answer.
-use crate::escape;
+use crate::draws;
 use crate::graphs;
 use crate::input;
 use crate::jobs;
 use crate::leaves;
-use crate::lists;
 use crate::names;
+use crate::print::Line;
 
 // A longer line is not in the format.
 pub const LONGEST: usize = 16384;
 
-// The calls on lists.
-fn of_list(name: u64, words: &[u32], out: &mut [u8]) -> usize {
-    if name == names::ADMIT {
-        return lists::admit(words, out);
+// The answer is an empty line where there is no such call, or it takes other numbers.
+fn answer(name: u64, words: &[u32], line: Line) -> Line {
+    if names::graph_call(name) {
+        return graphs::answer(name, words, line);
     }
-    if name == names::DISTANCE {
-        return lists::distance(words, out);
+    if name == names::ADMIT {
+        return graphs::admit(words, line);
     }
     if name == names::GENERATE {
-        return lists::generate(words, out);
+        return graphs::generate(words, line);
     }
-    if name == names::JOB {
-        return jobs::answer(words, out);
+    if name == names::DISTANCE {
+        return draws::distance(words, line);
     }
-    leaves::answer(name, words, out)
+    leaves::answer(name, words, line)
 }
 
-// How many bytes the answer has; none where there is no such call, or it takes other numbers.
-fn answer(name: u64, words: &[u32], out: &mut [u8]) -> usize {
-    if names::graph_call(name) {
-        return graphs::answer(name, words, out);
-    }
-    if name == names::ROW {
-        return leaves::row(words, out);
-    }
-    of_list(name, words, out)
-}
-
-// Makes the call again and again without its answer, so that a measurement is of the call and not of the text.
-fn rehearse(times: u32, name: u64, words: &[u32], out: &mut [u8]) {
+// Makes the call once less than that without its answer, so that a measurement is of the call and not of the text.
+fn rehearse(times: u64, name: u64, words: &[u32]) {
     let mut left = times;
     while left > 1 {
-        answer(name, words, &mut out[..0]);
+        answer(name, words, Line::new(true));
         left -= 1;
     }
 }
 
-// The words of a case, whose name ends at a place.
-fn words(name: u64, line: &[u8], end: usize, words: &mut [u32]) -> usize {
-    if line.len() <= end {
-        return 0;
-    }
-    if name == names::JOB {
-        return escape::read(line, end + 1, words);
-    }
-    input::numbers(name, line, end, words)
+fn made(times: u64, name: u64, words: &[u32]) -> Line {
+    rehearse(times, name, words);
+    answer(name, words, Line::new(false))
 }
 
-fn made(times: u32, name: u64, words: &[u32], out: &mut [u8]) -> usize {
-    rehearse(times, name, words, out);
-    answer(name, words, out)
+// The numbers, each behind a space.
+fn call(times: u64, name: u64, rest: &[u8]) -> Line {
+    let mut space = [0u32; draws::MOST];
+    let n = input::numbers(name, rest, &mut space);
+    if draws::MOST < n {
+        return Line::new(false);
+    }
+    made(times, name, &space[..n])
 }
 
-fn call(times: u32, line: &[u8], space: &mut [u32], out: &mut [u8]) -> usize {
+fn named(times: u64, line: &[u8]) -> Line {
     let end = input::find(line, 0, b' ');
     let name = names::packed(&line[0..end]);
-    let n = words(name, line, end, space);
-    if space.len() < n {
-        return 0;
+    if name != names::JOB {
+        return call(times, name, &line[end..]);
     }
-    made(times, name, &space[0..n], out)
+    if times != 1 {
+        return Line::new(false);
+    }
+    jobs::answer(&line[end..])
 }
 
-// The line from the end of `times` on: a space, a number from 1 on, a space and a call.
-fn repeated(line: &[u8], space: &mut [u32], out: &mut [u8]) -> usize {
-    if line.len() == 0 {
-        return 0;
+// What stands behind `times`: a number from 1 on and a call, each behind a space.
+fn repeated(rest: &[u8]) -> Line {
+    if rest.len() == 0 {
+        return Line::new(false);
     }
-    let end = input::find(line, 1, b' ');
-    if line.len() <= end {
-        return 0;
+    let end = input::find(rest, 1, b' ');
+    if rest.len() == end {
+        return Line::new(false);
     }
-    let times = input::word(&line[1..end], false);
-    if times == 0 {
-        return 0;
+    let times = input::word(&rest[1..end], false);
+    if !input::counts(times) {
+        return Line::new(false);
     }
-    if 4294967295 < times {
-        return 0;
-    }
-    call(times as u32, &line[end + 1..], space, out)
+    named(times, &rest[end + 1..])
 }
 
-// How many bytes the answer to a line has; none where the line is not in the format.
-pub fn of_line(line: &[u8], space: &mut [u32], out: &mut [u8]) -> usize {
+// The answer to a line: an empty one where it is not in the format.
+pub fn of_line(line: &[u8]) -> Line {
     if LONGEST < line.len() {
-        return 0;
+        return Line::new(false);
     }
     let end = input::find(line, 0, b' ');
     if names::packed(&line[0..end]) == names::TIMES {
-        return repeated(&line[end..], space, out);
+        return repeated(&line[end..]);
     }
-    call(1, line, space, out)
+    named(1, line)
 }

@@ -1,6 +1,5 @@
 // A job's text on one line: \n is a line feed, \\ a backslash, \xHH any byte, and every other byte is itself.
 use crate::input;
-use crate::print;
 ghost use Prim.Native.Nat.{_≤_};
 
 const BACKSLASH: u8 = 92;
@@ -73,9 +72,9 @@ fn taken(bytes: &[u8]) -> usize
     2
 }
 
-// The text behind a call's name and one space, a byte a word: how many there are, or NO_COUNT.
-pub fn read(line: &[u8], from: usize, words: &mut [u32]) -> usize {
-    let mut at = from;
+// The text behind one space: how many bytes it has, or NO_COUNT.
+pub fn read(line: &[u8], text: &mut [u8]) -> usize {
+    let mut at = 1;
     let mut n = 0;
     while at < line.len() {
         let c = front(&line[at..]);
@@ -86,31 +85,12 @@ pub fn read(line: &[u8], from: usize, words: &mut [u32]) -> usize {
         if 255 < c {
             return input::NO_COUNT;
         }
-        if words.len() <= n {
+        if text.len() <= n {
             return input::NO_COUNT;
         }
-        words[n] = c;
+        text[n] = c as u8;
         n += 1;
         at += step;
     }
     n
-}
-
-fn letter(out: &mut [u8], at: usize, c: u8) -> usize {
-    if c == b'\n' {
-        let next = print::byte(out, at, BACKSLASH);
-        return print::byte(out, next, b'n');
-    }
-    print::byte(out, at, c)
-}
-
-// A listing, in which only the line feeds need an escape.
-pub fn write(out: &mut [u8], text: &[u8]) -> usize {
-    let mut at = 0;
-    let mut k = 0;
-    while k < text.len() {
-        at = letter(out, at, text[k]);
-        k += 1;
-    }
-    at
 }

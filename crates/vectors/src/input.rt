@@ -111,9 +111,17 @@ pub fn word(bytes: &[u8], signed: bool) -> u64 {
     natural(bytes, 0)
 }
 
+// A number from 1 on.
+pub fn counts(n: u64) -> bool {
+    if n == 0 {
+        return false;
+    }
+    n < NONE
+}
+
 // The numbers of a call, each behind one space, as words: how many there are, or NO_COUNT.
-pub fn numbers(name: u64, line: &[u8], from: usize, words: &mut [u32]) -> usize {
-    let mut at = from;
+pub fn numbers(name: u64, line: &[u8], words: &mut [u32]) -> usize {
+    let mut at = 0;
     let mut n = 0;
     while at < line.len() {
         let start = at + 1;

@@ -1,42 +1,26 @@
 // One case of a job's text: what the program would print for it.
+use crate::draws::MOST;
 use crate::escape;
-use crate::lists::MOST;
+use crate::print::Line;
 use meaning::Printed;
 
-// The words' lowest bytes, as many as there are places for.
-fn bytes(words: &[u32], out: &mut [u8]) {
-    let mut k = 0;
-    while k < out.len() {
-        if words.len() <= k {
-            return;
-        }
-        out[k] = (words[k] % 256) as u8;
-        k += 1;
-    }
-}
-
-fn listed(text: &[u8], lent: &mut [u8], out: &mut [u8]) -> usize {
-    let Printed::Bytes(n) = reply::answer(text, lent) else {
-        return 0;
-    };
-    if lent.len() < n {
-        return 0;
-    }
-    escape::write(out, &lent[..n])
-}
-
-fn with_text(text: &[u8], out: &mut [u8]) -> usize {
+fn listed(text: &[u8], line: Line) -> Line {
     let mut lent = [0u8; 24899];
-    listed(text, &mut lent, out)
+    let Printed::Bytes(n) = reply::answer(text, &mut lent) else {
+        return line;
+    };
+    if 24899 < n {
+        return line;
+    }
+    line.text(&lent[..n])
 }
 
-// The words are the text's bytes.
-pub fn answer(words: &[u32], out: &mut [u8]) -> usize {
-    let n = words.len();
+// What stands behind `job`: a space and the text, or nothing.
+pub fn answer(rest: &[u8]) -> Line {
     let mut text = [0u8; MOST];
+    let n = escape::read(rest, &mut text);
     if MOST < n {
-        return 0;
+        return Line::new(false);
     }
-    bytes(words, &mut text);
-    with_text(&text[..n], out)
+    listed(&text[..n], Line::new(false))
 }

@@ -1,43 +1,34 @@
 // One case of each leaf call.
 use crate::input;
 use crate::names;
-use crate::print;
+use crate::print::Line;
 use meaning::Operated;
 use meaning::Prefix;
 
-fn apart(words: &[u32], out: &mut [u8]) -> usize {
-    let p = constants::take_apart(input::signed(input::at(words, 0)));
-    let sign = print::sign(out, p.sign);
-    let shift = print::number(out, sign, p.shift);
-    print::number(out, shift, p.odd)
+fn apart(t: i32, line: Line) -> Line {
+    let p = constants::take_apart(t);
+    let signed = line.number(p.sign < 0, numbers::magnitude(p.sign) as u64);
+    signed.word(p.shift).word(p.odd)
 }
 
-fn prefix(out: &mut [u8], at: usize, p: Prefix) -> usize {
-    let before = print::number(out, at, p.before);
-    let gap = print::number(out, before, p.gap);
-    let s = print::number(out, gap, p.s);
-    print::number(out, s, p.value)
+fn prefix(p: Prefix, line: Line) -> Line {
+    line.word(p.before).word(p.gap).word(p.s).word(p.value)
 }
 
-fn prefixes(out: &mut [u8], at: usize, c: u32) -> usize {
+fn prefixes(c: u32, line: Line) -> Line {
     let ps = digits::prefixes_of(c);
     let count = ps.count as usize;
     let list = ps.list;
-    let mut next = print::number(out, at, ps.count);
+    let mut next = line.word(ps.count);
     let mut k = 0;
     while k < count {
         if 16 <= k {
             return next;
         }
-        next = prefix(out, next, list[k]);
+        next = prefix(list[k], next);
         k += 1;
     }
     next
-}
-
-fn digits(c: u32, out: &mut [u8]) -> usize {
-    let nonzeros = print::number(out, 0, digits::nonzero_digits(c));
-    prefixes(out, nonzeros, c)
 }
 
 fn operated(words: &[u32]) -> Operated {
@@ -51,59 +42,57 @@ fn operated(words: &[u32]) -> Operated {
     )
 }
 
-fn operate(words: &[u32], out: &mut [u8]) -> usize {
+fn operate(words: &[u32], line: Line) -> Line {
     let Operated::Made { n, r, value } = operated(words) else {
-        return print::number(out, 0, 0);
+        return line.word(0);
     };
-    let made = print::number(out, 0, 1);
-    let whole = print::signed(out, made, n);
-    let zeros = print::number(out, whole, r);
-    print::number(out, zeros, value)
+    line.word(1).signed(n).word(r).word(value)
 }
 
 // The calls whose cases are one number.
-fn of_number(name: u64, words: &[u32], out: &mut [u8]) -> usize {
+fn of_number(name: u64, n: u32, line: Line) -> Line {
     if name == names::APART {
-        return apart(words, out);
+        return apart(input::signed(n), line);
     }
-    let n = input::at(words, 0);
     if name == names::DIGITS {
-        return digits(n, out);
+        return prefixes(n, line.word(digits::nonzero_digits(n)));
     }
     if name == names::BITS {
-        return print::number(out, 0, widths::extra_bits(n));
+        return line.word(widths::extra_bits(n));
     }
-    0
+    line
 }
 
-fn truth(out: &mut [u8], fits: bool) -> usize {
-    if fits {
-        return print::number(out, 0, 1);
+fn fits(b: u32, i: usize, words: &[u32]) -> bool {
+    if i == 0 {
+        return false;
     }
-    print::number(out, 0, 0)
+    rows::row_fits(b, words, i - 1)
 }
 
 // The words are b, the row's number, which counts from 1, and the rows' words. The call counts the rows before it.
-pub fn row(words: &[u32], out: &mut [u8]) -> usize {
+fn row(words: &[u32], line: Line) -> Line {
     if words.len() < 2 {
-        return 0;
+        return line;
     }
-    let i = input::at(words, 1) as usize;
-    if i == 0 {
-        return truth(out, false);
+    if fits(words[0], input::at(words, 1) as usize, &words[2..]) {
+        return line.word(1);
     }
-    truth(out, rows::row_fits(words[0], &words[2..], i - 1))
+    line.word(0)
 }
 
-// The calls whose cases have a fixed number of words.
-pub fn answer(name: u64, words: &[u32], out: &mut [u8]) -> usize {
+pub fn answer(name: u64, words: &[u32], line: Line) -> Line {
+    if name == names::ROW {
+        return row(words, line);
+    }
     if words.len() == 1 {
-        return of_number(name, words, out);
+        return of_number(name, words[0], line);
     }
-    if words.len() == 6 {
-        if name == names::OPERATE {
-            return operate(words, out);
-        }
+    if words.len() != 6 {
+        return line;
     }
-    0
+    if name == names::OPERATE {
+        return operate(words, line);
+    }
+    line
 }

@@ -1,32 +1,27 @@
 // Answers cases for the library's calls, one a line, so that anyone can hold them to answers of their own.
 // tests/README.md has the lines' format.
 mod case;
+mod draws;
 mod escape;
 mod graphs;
 mod input;
 mod jobs;
 mod leaves;
-mod lists;
 mod names;
 mod print;
 
 use case::LONGEST;
 use libc::STDIN_FILENO;
 
-fn line(line: &[u8], space: &mut [u32], out: &mut [u8]) {
-    let n = case::of_line(line, space, out);
-    print::line(out, n);
-}
-
 // Answers every whole line, and says where the rest begins.
-fn whole_lines(bytes: &[u8], space: &mut [u32], out: &mut [u8]) -> usize {
+fn whole_lines(bytes: &[u8]) -> usize {
     let mut from = 0;
     while from < bytes.len() {
         let end = input::find(bytes, from, b'\n');
         if bytes.len() <= end {
             return from;
         }
-        line(&bytes[from..end], space, out);
+        case::of_line(&bytes[from..end]).end();
         from = end + 1;
     }
     from
@@ -50,53 +45,59 @@ fn keep(bytes: &mut [u8], from: usize, to: usize) -> usize {
     k
 }
 
-// One read behind the bytes that are held, so that a line that is typed is answered at once: the end of all bytes.
-fn read(bytes: &mut [u8], held: usize) -> usize {
+// One read behind the bytes that are held, so that a line that is typed is answered at once: how many bytes it got.
+fn read(bytes: &mut [u8]) -> usize {
+    let got = libc::read(STDIN_FILENO, bytes);
+    io::count(got, bytes)
+}
+
+fn read_behind(bytes: &mut [u8], held: usize) -> usize {
     if bytes.len() < held {
-        return held;
+        return 0;
     }
-    let got = libc::read(STDIN_FILENO, &mut bytes[held..]);
-    held + io::count(got, &bytes[held..])
+    read(&mut bytes[held..])
 }
 
 // Answers the whole lines of some bytes and keeps the rest.
-fn answer(bytes: &mut [u8], end: usize, space: &mut [u32], out: &mut [u8]) -> usize {
-    if bytes.len() < end {
+fn answer(bytes: &mut [u8], held: usize, got: usize) -> usize {
+    if bytes.len() < held {
         return 0;
     }
-    let from = whole_lines(&bytes[0..end], space, out);
+    if bytes.len() - held < got {
+        return 0;
+    }
+    let end = held + got;
+    let from = whole_lines(&bytes[0..end]);
     keep(bytes, from, end)
 }
 
 // The last line, where no line feed ends it.
-fn last(bytes: &[u8], held: usize, space: &mut [u32], out: &mut [u8]) {
+fn last(bytes: &[u8], held: usize) {
     if held == 0 {
         return;
     }
     if bytes.len() < held {
         return;
     }
-    line(&bytes[0..held], space, out);
+    case::of_line(&bytes[0..held]).end();
 }
 
 // A proved loop has to end, so it counts its turns down from a number that no run uses up.
-fn run(bytes: &mut [u8], space: &mut [u32], out: &mut [u8]) {
+fn run(bytes: &mut [u8]) {
     let mut turns = u64::MAX;
     let mut held = 0;
     while turns > 0 {
-        let end = read(bytes, held);
-        if end == held {
-            last(bytes, held, space, out);
+        let got = read_behind(bytes, held);
+        if got == 0 {
+            last(bytes, held);
             return;
         }
-        held = answer(bytes, end, space, out);
+        held = answer(bytes, held, got);
         turns -= 1;
     }
 }
 
 fn main() {
     let mut bytes = [0u8; 65536];
-    let mut space = [0u32; lists::MOST];
-    let mut out = [0u8; 32768];
-    run(&mut bytes, &mut space, &mut out);
+    run(&mut bytes);
 }

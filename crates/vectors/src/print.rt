@@ -1,120 +1,150 @@
-// An answer's line in a buffer: each function writes from a place on and answers the place behind. What has no place is
-// left out, so that a call can be repeated without its answer by lending it no buffer.
+// An answer's line. It goes by value from number to number, and out when it is whole, or when no number more has room.
 use libc::STDOUT_FILENO;
 use meaning::Answer;
 
-pub fn byte(out: &mut [u8], at: usize, c: u8) -> usize {
-    if out.len() <= at {
-        return at;
+const SIZE: usize = 1024;
+// Below this there is room for a space, a sign and the digits of any number.
+const NEARLY: usize = 1000;
+
+// A quiet line takes nothing, so that a call can be repeated without its answer.
+pub struct Line {
+    pub quiet: bool,
+    n: usize,
+    text: [u8; SIZE],
+}
+
+impl Line {
+    pub fn new(quiet: bool) -> Line {
+        let text = [0u8; SIZE];
+        Line { quiet, n: 0, text }
     }
-    out[at] = c;
-    at + 1
-}
 
-fn text(out: &mut [u8], at: usize, from: &[u8]) -> usize {
-    let mut next = at;
-    let mut k = 0;
-    while k < from.len() {
-        next = byte(out, next, from[k]);
-        k += 1;
-    }
-    next
-}
-
-fn decimal(out: &mut [u8], at: usize, n: u64) -> usize {
-    let mut digits = [0u8; 20];
-    let k = io::decimal(n, &mut digits);
-    text(out, at, &digits[..k])
-}
-
-// The space before every number but the line's first.
-fn gap(out: &mut [u8], at: usize) -> usize {
-    if at == 0 {
-        return at;
-    }
-    byte(out, at, b' ')
-}
-
-pub fn size(out: &mut [u8], at: usize, n: u64) -> usize {
-    if out.len() <= at {
-        return at;
-    }
-    let next = gap(out, at);
-    decimal(out, next, n)
-}
-
-pub fn number(out: &mut [u8], at: usize, n: u32) -> usize {
-    size(out, at, n as u64)
-}
-
-fn magnitude(out: &mut [u8], at: usize, negative: bool, m: u64) -> usize {
-    if negative {
-        let next = gap(out, at);
-        let digits = byte(out, next, b'-');
-        return decimal(out, digits, m);
-    }
-    size(out, at, m)
-}
-
-pub fn signed(out: &mut [u8], at: usize, n: i64) -> usize {
-    magnitude(out, at, n < 0, numbers::magnitude64(n))
-}
-
-pub fn sign(out: &mut [u8], n: i32) -> usize {
-    magnitude(out, 0, n < 0, numbers::magnitude(n) as u64)
-}
-
-pub fn answer(out: &mut [u8], a: Answer) -> usize {
-    let next = number(out, 0, a.number());
-    number(out, next, a.place())
-}
-
-pub fn all(out: &mut [u8], at: usize, words: &[u32]) -> usize {
-    let mut next = at;
-    let mut k = 0;
-    while k < words.len() {
-        if out.len() <= next {
-            return next;
+    fn put(mut self, c: u8) -> Line {
+        let n = self.n;
+        if SIZE <= n {
+            return self;
         }
-        next = number(out, next, words[k]);
-        k += 1;
+        self.text[n] = c;
+        self.n = n + 1;
+        self
     }
-    next
-}
 
-pub fn all_signed(out: &mut [u8], at: usize, words: &[i64]) -> usize {
-    let mut next = at;
-    let mut k = 0;
-    while k < words.len() {
-        if out.len() <= next {
-            return next;
+    fn write(mut self) -> Line {
+        let n = self.n;
+        let text = self.text;
+        if SIZE < n {
+            return self;
         }
-        next = signed(out, next, words[k]);
-        k += 1;
+        io::write_all(STDOUT_FILENO, &text[..n]);
+        self.n = 0;
+        self
     }
-    next
-}
 
-fn bad(out: &mut [u8]) -> usize {
-    let a = byte(out, 0, b'b');
-    let b = byte(out, a, b'a');
-    byte(out, b, b'd')
-}
-
-fn write(out: &mut [u8], n: usize) {
-    let end = byte(out, n, b'\n');
-    if out.len() < end {
-        return;
+    fn room(self) -> Line {
+        if self.n < NEARLY {
+            return self;
+        }
+        self.write()
     }
-    io::write_all(STDOUT_FILENO, &out[..end]);
-}
 
-// Ends the line and writes it. An empty one is no answer: its case was not in the format.
-pub fn line(out: &mut [u8], n: usize) {
-    if n == 0 {
-        let end = bad(out);
-        write(out, end);
-        return;
+    // The space before every number but the line's first.
+    fn gap(self) -> Line {
+        if self.n == 0 {
+            return self;
+        }
+        self.put(b' ')
     }
-    write(out, n);
+
+    fn minus(self, negative: bool) -> Line {
+        if negative {
+            return self.put(b'-');
+        }
+        self
+    }
+
+    fn raw(self, text: &[u8]) -> Line {
+        let mut line = self;
+        let mut k = 0;
+        while k < text.len() {
+            line = line.put(text[k]);
+            k += 1;
+        }
+        line
+    }
+
+    fn digits(self, m: u64) -> Line {
+        let mut text = [0u8; 20];
+        let k = io::decimal(m, &mut text);
+        self.raw(&text[..k])
+    }
+
+    // A number of this sign and magnitude.
+    pub fn number(self, negative: bool, m: u64) -> Line {
+        if self.quiet {
+            return self;
+        }
+        self.gap().room().minus(negative).digits(m)
+    }
+
+    pub fn word(self, n: u32) -> Line {
+        self.number(false, n as u64)
+    }
+
+    pub fn signed(self, n: i64) -> Line {
+        self.number(n < 0, numbers::magnitude64(n))
+    }
+
+    pub fn answer(self, a: Answer) -> Line {
+        self.word(a.number()).word(a.place())
+    }
+
+    pub fn all(self, words: &[u32]) -> Line {
+        let mut line = self;
+        let mut k = 0;
+        while k < words.len() {
+            line = line.word(words[k]);
+            k += 1;
+        }
+        line
+    }
+
+    pub fn all_signed(self, words: &[i64]) -> Line {
+        let mut line = self;
+        let mut k = 0;
+        while k < words.len() {
+            line = line.signed(words[k]);
+            k += 1;
+        }
+        line
+    }
+
+    // A byte of a job's listing, in which only the line feeds need an escape.
+    fn letter(self, c: u8) -> Line {
+        if c == b'\n' {
+            return self.room().put(92).put(b'n');
+        }
+        self.room().put(c)
+    }
+
+    pub fn text(self, text: &[u8]) -> Line {
+        let mut line = self;
+        let mut k = 0;
+        while k < text.len() {
+            line = line.letter(text[k]);
+            k += 1;
+        }
+        line
+    }
+
+    // An empty line is no answer: its case was not in the format.
+    fn or_bad(self) -> Line {
+        if self.n == 0 {
+            return self.put(b'b').put(b'a').put(b'd');
+        }
+        self
+    }
+
+    pub fn end(self) {
+        self.or_bad().put(b'\n').write();
+    }
 }

@@ -6,28 +6,22 @@ use Rattle.vectors.proofs.run.Statement.{statement}
 use Rattle.vectors.proofs.run.Tie as tie
 
 abbrev Inv-loop : tie.InvT-loop
-Inv-loop bytes₀ space₀ out₀ turns₀ held₀ bytes space out turns held = (length bytes ≡ length bytes₀) × (length space ≡ length space₀) × (length out ≡ length out₀)
+Inv-loop bytes₀ turns₀ held₀ bytes turns held = length bytes ≡ length bytes₀
 
 abbrev μ-loop : tie.MeasureT-loop
-μ-loop bytes₀ space₀ out₀ turns₀ held₀ bytes space out turns held = turns
+μ-loop bytes₀ turns₀ held₀ bytes turns held = turns
 
 loop-holds : tie.Need-loop-holds Inv-loop μ-loop
 loop-holds c = search needs
 
-read-requires : tie.Need-read-requires Inv-loop μ-loop
-read-requires c κs = search needs
+read-behind-requires : tie.Need-read-behind-requires Inv-loop μ-loop
+read-behind-requires c κs = search needs
 
 last-requires : tie.Need-last-requires Inv-loop μ-loop
 last-requires c κs = search needs
 
 same-length : tie.Need-same-length Inv-loop μ-loop
 same-length c = search needs
-
-same-length-2 : tie.Need-same-length-2 Inv-loop μ-loop
-same-length-2 c = search needs
-
-same-length-3 : tie.Need-same-length-3 Inv-loop μ-loop
-same-length-3 c = search needs
 
 returns : tie.Need-returns Inv-loop μ-loop
 returns c = search needs
@@ -44,14 +38,8 @@ loop-less c = search needs
 loop-again : tie.Need-loop-again Inv-loop μ-loop
 loop-again c = search needs
 
-same-length-4 : tie.Need-same-length-4 Inv-loop μ-loop
-same-length-4 c = search needs
-
-same-length-5 : tie.Need-same-length-5 Inv-loop μ-loop
-same-length-5 c = search needs
-
-same-length-6 : tie.Need-same-length-6 Inv-loop μ-loop
-same-length-6 c = search needs
+same-length-2 : tie.Need-same-length-2 Inv-loop μ-loop
+same-length-2 c = search needs
 
 returns-2 : tie.Need-returns-2 Inv-loop μ-loop
 returns-2 c = search needs
@@ -63,17 +51,13 @@ run-spec =
     Inv-loop
     μ-loop
     loop-holds
-    read-requires
+    read-behind-requires
     last-requires
     same-length
-    same-length-2
-    same-length-3
     returns
     answer-requires
     sub-turns
     loop-less
     loop-again
-    same-length-4
-    same-length-5
-    same-length-6
+    same-length-2
     returns-2)

@@ -1,24 +1,20 @@
 -- `rehearse` is safe and ends. Assumes nothing.
-use mathlib.Core.Path.{_≡_}
-use lib.ListN.{length}
+use Prim.Native.Nat.{_≤_}
 use borrow.Author.Needs.{needs}
 use Rattle.vectors.proofs.case.rehearse.Statement.{statement}
 use Rattle.vectors.proofs.case.rehearse.Tie as tie
 
 abbrev Inv-loop : tie.InvT-loop
-Inv-loop times name words out₀ left₀ out left = length out ≡ length out₀
+Inv-loop times name words left₀ left = left ≤ times
 
 abbrev μ-loop : tie.MeasureT-loop
-μ-loop times name words out₀ left₀ out left = left
+μ-loop times name words left₀ left = left
 
 loop-holds : tie.Need-loop-holds Inv-loop μ-loop
 loop-holds c = search needs
 
-slice-relend-prefix-answer : tie.Need-slice-relend-prefix-answer Inv-loop μ-loop
-slice-relend-prefix-answer c = search needs
-
-slice-aggregate-answer : tie.Need-slice-aggregate-answer Inv-loop μ-loop
-slice-aggregate-answer c = search needs
+new-requires : tie.Need-new-requires Inv-loop μ-loop
+new-requires c κs = search needs
 
 answer-requires : tie.Need-answer-requires Inv-loop μ-loop
 answer-requires c κs = search needs
@@ -32,9 +28,6 @@ loop-less c = search needs
 loop-again : tie.Need-loop-again Inv-loop μ-loop
 loop-again c = search needs
 
-same-length : tie.Need-same-length Inv-loop μ-loop
-same-length c = search needs
-
 returns : tie.Need-returns Inv-loop μ-loop
 returns c = search needs
 
@@ -45,11 +38,9 @@ rehearse-spec =
     Inv-loop
     μ-loop
     loop-holds
-    slice-relend-prefix-answer
-    slice-aggregate-answer
+    new-requires
     answer-requires
     sub-left
     loop-less
     loop-again
-    same-length
     returns)

@@ -7,10 +7,10 @@ use Rattle.vectors.proofs.escape.read.Statement.{statement}
 use Rattle.vectors.proofs.escape.read.Tie as tie
 
 abbrev Inv-loop : tie.InvT-loop
-Inv-loop line from words₀ at₀ n₀ words at n = length words ≡ length words₀
+Inv-loop line text₀ at₀ n₀ text at n = length text ≡ length text₀
 
 abbrev μ-loop : tie.MeasureT-loop
-μ-loop line from words₀ at₀ n₀ words at n = length line - at
+μ-loop line text₀ at₀ n₀ text at n = length line - at
 
 loop-holds : tie.Need-loop-holds Inv-loop μ-loop
 loop-holds c = search needs
@@ -60,11 +60,11 @@ same-length-3 c = search needs
 returns-3 : tie.Need-returns-3 Inv-loop μ-loop
 returns-3 c = search needs
 
-mul-words : tie.Need-mul-words Inv-loop μ-loop
-mul-words c = search needs
+cast-text : tie.Need-cast-text Inv-loop μ-loop
+cast-text c = search needs
 
-slice-write-words : tie.Need-slice-write-words Inv-loop μ-loop
-slice-write-words c = search needs
+slice-write-text : tie.Need-slice-write-text Inv-loop μ-loop
+slice-write-text c = search needs
 
 add-n : tie.Need-add-n Inv-loop μ-loop
 add-n c = search needs
@@ -106,8 +106,8 @@ read-spec =
     returns-2
     same-length-3
     returns-3
-    mul-words
-    slice-write-words
+    cast-text
+    slice-write-text
     add-n
     add-at
     loop-less

@@ -17,9 +17,6 @@ slice-aggregate-multiplied c = sym (length-take-le _ _ (search needs))
 multiplied-requires : tie.Need-multiplied-requires
 multiplied-requires c κs = search needs
 
-same-length : tie.Need-same-length
-same-length c = search needs
-
 returns-2 : tie.Need-returns-2
 returns-2 c = search needs
 
@@ -31,5 +28,4 @@ products-spec =
     array-borrow-prefix-lent
     slice-aggregate-multiplied
     multiplied-requires
-    same-length
     returns-2)

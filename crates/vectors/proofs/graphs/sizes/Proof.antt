@@ -17,19 +17,10 @@ slice-aggregate-sized c = sym (length-take-le _ _ (search needs))
 sized-requires : tie.Need-sized-requires
 sized-requires c κs = search needs
 
-same-length : tie.Need-same-length
-same-length c = search needs
-
 returns-2 : tie.Need-returns-2
 returns-2 c = search needs
 
 pub sizes-spec : {M : Type 1} → statement M
 sizes-spec =
     tie.close
-    (tie.spec
-    returns
-    array-borrow-prefix-lent
-    slice-aggregate-sized
-    sized-requires
-    same-length
-    returns-2)
+    (tie.spec returns array-borrow-prefix-lent slice-aggregate-sized sized-requires returns-2)

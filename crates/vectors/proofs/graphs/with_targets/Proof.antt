@@ -23,9 +23,6 @@ slice-aggregate-call c = sym (length-take-le _ _ (search needs))
 call-requires : tie.Need-call-requires
 call-requires c κs = search needs
 
-same-length : tie.Need-same-length
-same-length c = search needs
-
 returns-2 : tie.Need-returns-2
 returns-2 c = search needs
 
@@ -39,5 +36,4 @@ with-targets-spec =
     array-share-prefix-targets
     slice-aggregate-call
     call-requires
-    same-length
     returns-2)

@@ -7,10 +7,10 @@ use Rattle.vectors.proofs.input.numbers.Statement.{statement}
 use Rattle.vectors.proofs.input.numbers.Tie as tie
 
 abbrev Inv-loop : tie.InvT-loop
-Inv-loop name line from words₀ at₀ n₀ words at n = length words ≡ length words₀
+Inv-loop name line words₀ at₀ n₀ words at n = length words ≡ length words₀
 
 abbrev μ-loop : tie.MeasureT-loop
-μ-loop name line from words₀ at₀ n₀ words at n = length line - at
+μ-loop name line words₀ at₀ n₀ words at n = length line - at
 
 loop-holds : tie.Need-loop-holds Inv-loop μ-loop
 loop-holds c = search needs

@@ -5,6 +5,9 @@ use borrow.Author.Needs.{needs}
 use Rattle.vectors.proofs.jobs.listed.Statement.{statement}
 use Rattle.vectors.proofs.jobs.listed.Tie as tie
 
+slice-aggregate-answer : tie.Need-slice-aggregate-answer
+slice-aggregate-answer c = search needs
+
 answer-requires : tie.Need-answer-requires
 answer-requires c κs = search needs
 
@@ -14,32 +17,20 @@ enum-known-n c = search needs
 enum-told : tie.Need-enum-told
 enum-told c = search needs
 
-same-length : tie.Need-same-length
-same-length c = search needs
-
 returns : tie.Need-returns
 returns c = search needs
-
-same-length-2 : tie.Need-same-length-2
-same-length-2 c = search needs
 
 returns-2 : tie.Need-returns-2
 returns-2 c = search needs
 
-slice-reshare-prefix-write : tie.Need-slice-reshare-prefix-write
-slice-reshare-prefix-write c = search needs
+array-share-prefix-lent : tie.Need-array-share-prefix-lent
+array-share-prefix-lent c = search needs
 
-slice-aggregate-write : tie.Need-slice-aggregate-write
-slice-aggregate-write c = sym (length-take-le _ _ (c .before .before .if1 .left))
+slice-aggregate-text : tie.Need-slice-aggregate-text
+slice-aggregate-text c = sym (length-take-le _ _ (search needs))
 
-write-requires : tie.Need-write-requires
-write-requires c κs = search needs
-
-same-length-3 : tie.Need-same-length-3
-same-length-3 c = search needs
-
-same-length-4 : tie.Need-same-length-4
-same-length-4 c = search needs
+text-requires : tie.Need-text-requires
+text-requires c κs = search needs
 
 returns-3 : tie.Need-returns-3
 returns-3 c = search needs
@@ -48,16 +39,13 @@ pub listed-spec : {M : Type 1} → statement M
 listed-spec =
     tie.close
     (tie.spec
+    slice-aggregate-answer
     answer-requires
     enum-known-n
     enum-told
-    same-length
     returns
-    same-length-2
     returns-2
-    slice-reshare-prefix-write
-    slice-aggregate-write
-    write-requires
-    same-length-3
-    same-length-4
+    array-share-prefix-lent
+    slice-aggregate-text
+    text-requires
     returns-3)

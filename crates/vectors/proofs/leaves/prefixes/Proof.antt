@@ -9,10 +9,10 @@ use Rattle.vectors.proofs.leaves.prefixes.Statement.{statement}
 use Rattle.vectors.proofs.leaves.prefixes.Tie as tie
 
 abbrev Inv-loop : tie.InvT-loop
-Inv-loop out₀ at c count list next₀ k₀ out next k = (k ≤ 16) × (length list ≡ 16) × (length out ≡ length out₀)
+Inv-loop c count list next₀ k₀ next k = (k ≤ 16) × (length list ≡ 16)
 
 abbrev μ-loop : tie.MeasureT-loop
-μ-loop out₀ at c count list next₀ k₀ out next k = count - k
+μ-loop c count list next₀ k₀ next k = count - k
 
 prefixes-of-requires : tie.Need-prefixes-of-requires Inv-loop μ-loop
 prefixes-of-requires c κs = search needs
@@ -20,16 +20,13 @@ prefixes-of-requires c κs = search needs
 cast-count : tie.Need-cast-count Inv-loop μ-loop
 cast-count c = search needs
 
-number-requires : tie.Need-number-requires Inv-loop μ-loop
-number-requires c κs = search needs
+word-requires : tie.Need-word-requires Inv-loop μ-loop
+word-requires c κs = search needs
 
 loop-holds : tie.Need-loop-holds Inv-loop μ-loop
 unfolding prefixesHeld
 loop-holds c =
-    (search needs, ap (λ p. length (p .list)) (c .before .before .before .before .before .before .prefixes-of .ensures) ∙ held-length (c .before .before .before .before .before .before .before .before .args .c) (search needs), search needs)
-
-same-length : tie.Need-same-length Inv-loop μ-loop
-same-length c = search needs
+    (search needs, ap (λ p. length (p .list)) (c .before .before .before .prefixes-of .ensures) ∙ held-length (c .before .before .before .before .args .c) (search needs))
 
 returns : tie.Need-returns Inv-loop μ-loop
 returns c = search needs
@@ -52,9 +49,6 @@ loop-less c = search needs
 loop-again : tie.Need-loop-again Inv-loop μ-loop
 loop-again c = search needs
 
-same-length-2 : tie.Need-same-length-2 Inv-loop μ-loop
-same-length-2 c = search needs
-
 returns-2 : tie.Need-returns-2 Inv-loop μ-loop
 returns-2 c = search needs
 
@@ -66,9 +60,8 @@ prefixes-spec =
     μ-loop
     prefixes-of-requires
     cast-count
-    number-requires
+    word-requires
     loop-holds
-    same-length
     returns
     mul-prefix
     array-copy-out-prefix
@@ -76,5 +69,4 @@ prefixes-spec =
     add-k
     loop-less
     loop-again
-    same-length-2
     returns-2)

@@ -1,25 +1,18 @@
--- `all_signed` is safe and ends. Assumes nothing.
-use mathlib.Core.Path.{_≡_}
-use Prim.Native.Nat.{_-_}
+-- `Line::all_signed` is safe and ends. Assumes nothing.
+use Prim.Native.Nat.{_≤_, _-_}
 use lib.ListN.{length}
 use borrow.Author.Needs.{needs}
-use Rattle.vectors.proofs.print.all_signed.Statement.{statement}
-use Rattle.vectors.proofs.print.all_signed.Tie as tie
+use Rattle.vectors.proofs.print.Line.all_signed.Statement.{statement}
+use Rattle.vectors.proofs.print.Line.all_signed.Tie as tie
 
 abbrev Inv-loop : tie.InvT-loop
-Inv-loop out₀ at words next₀ k₀ out next k = length out ≡ length out₀
+Inv-loop words line₀ k₀ line k = k ≤ length words
 
 abbrev μ-loop : tie.MeasureT-loop
-μ-loop out₀ at words next₀ k₀ out next k = length words - k
+μ-loop words line₀ k₀ line k = length words - k
 
 loop-holds : tie.Need-loop-holds Inv-loop μ-loop
 loop-holds c = search needs
-
-same-length : tie.Need-same-length Inv-loop μ-loop
-same-length c = search needs
-
-returns : tie.Need-returns Inv-loop μ-loop
-returns c = search needs
 
 mul-signed : tie.Need-mul-signed Inv-loop μ-loop
 mul-signed c = search needs
@@ -39,11 +32,8 @@ loop-less c = search needs
 loop-again : tie.Need-loop-again Inv-loop μ-loop
 loop-again c = search needs
 
-same-length-2 : tie.Need-same-length-2 Inv-loop μ-loop
-same-length-2 c = search needs
-
-returns-2 : tie.Need-returns-2 Inv-loop μ-loop
-returns-2 c = search needs
+returns : tie.Need-returns Inv-loop μ-loop
+returns c = search needs
 
 pub all-signed-spec : {M : Type 1} → statement M
 all-signed-spec =
@@ -52,13 +42,10 @@ all-signed-spec =
     Inv-loop
     μ-loop
     loop-holds
-    same-length
-    returns
     mul-signed
     shared-slice-copy-out-signed
     signed-requires
     add-k
     loop-less
     loop-again
-    same-length-2
-    returns-2)
+    returns)

@@ -1,16 +1,15 @@
--- `write` is safe and ends. Assumes nothing.
-use mathlib.Core.Path.{_≡_}
-use Prim.Native.Nat.{_-_}
+-- `Line::text` is safe and ends. Assumes nothing.
+use Prim.Native.Nat.{_≤_, _-_}
 use lib.ListN.{length}
 use borrow.Author.Needs.{needs}
-use Rattle.vectors.proofs.escape.write.Statement.{statement}
-use Rattle.vectors.proofs.escape.write.Tie as tie
+use Rattle.vectors.proofs.print.Line.text.Statement.{statement}
+use Rattle.vectors.proofs.print.Line.text.Tie as tie
 
 abbrev Inv-loop : tie.InvT-loop
-Inv-loop out₀ text at₀ k₀ out at k = length out ≡ length out₀
+Inv-loop text line₀ k₀ line k = k ≤ length text
 
 abbrev μ-loop : tie.MeasureT-loop
-μ-loop out₀ text at₀ k₀ out at k = length text - k
+μ-loop text line₀ k₀ line k = length text - k
 
 loop-holds : tie.Need-loop-holds Inv-loop μ-loop
 loop-holds c = search needs
@@ -30,14 +29,11 @@ loop-less c = search needs
 loop-again : tie.Need-loop-again Inv-loop μ-loop
 loop-again c = search needs
 
-same-length : tie.Need-same-length Inv-loop μ-loop
-same-length c = search needs
-
 returns : tie.Need-returns Inv-loop μ-loop
 returns c = search needs
 
-pub write-spec : {M : Type 1} → statement M
-write-spec =
+pub text-spec : {M : Type 1} → statement M
+text-spec =
     tie.close
     (tie.spec
     Inv-loop
@@ -48,5 +44,4 @@ write-spec =
     add-k
     loop-less
     loop-again
-    same-length
     returns)

@@ -2,8 +2,8 @@
 use Prim.Native.Nat.{_≤_, _-_}
 use lib.ListN.{length}
 use borrow.Author.Needs.{needs}
-use Rattle.vectors.proofs.lists.untouched.Statement.{statement}
-use Rattle.vectors.proofs.lists.untouched.Tie as tie
+use Rattle.vectors.proofs.draws.untouched.Statement.{statement}
+use Rattle.vectors.proofs.draws.untouched.Tie as tie
 
 abbrev Inv-loop : tie.InvT-loop
 Inv-loop words from k₀ k = from ≤ k
