@@ -55,8 +55,7 @@ def same(folder, commands, cases):
 
 def settled(times):
     """The best time was reached twice, so it is no accident and no longer waits for a quiet moment."""
-    first, second = sorted(times)[:2]
-    return second < 1.02 * first
+    return len(times) > 1 and sorted(times)[1] < 1.02 * min(times)
 
 
 def best(commands, cases, runs):
