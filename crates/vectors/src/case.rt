@@ -12,17 +12,11 @@ pub const LONGEST: usize = 16384;
 
 // The answer is an empty line where there is no such call, or it takes other numbers.
 fn answer(name: u64, words: &[u32], line: Line) -> Line {
-    if names::graph_call(name) {
-        return graphs::answer(name, words, line);
-    }
-    if name == names::ADMIT {
-        return graphs::admit(words, line);
-    }
-    if name == names::GENERATE {
-        return graphs::generate(words, line);
-    }
     if name == names::DISTANCE {
         return draws::distance(words, line);
+    }
+    if names::takes_list(name) {
+        return graphs::answer(name, words, line);
     }
     leaves::answer(name, words, line)
 }

@@ -1,6 +1,7 @@
 // One case of distance and one of the generator.
 use crate::print::Line;
 use meaning::Answer;
+use meaning::Drawn;
 use meaning::Far;
 use meaning::ROW_LENGTH;
 
@@ -42,10 +43,14 @@ fn rows(rows: u32, lent: &[u32], line: Line) -> Line {
     line.word(rows).all(&lent[0..end]).number(false, left)
 }
 
+fn shown(drawn: Drawn, lent: &[u32], line: Line) -> Line {
+    rows(drawn.rows(), lent, line.answer(drawn.answer()))
+}
+
 fn drawn(b: u32, targets: &[i32], lent: &mut [u32], line: Line) -> Line {
     fill(lent);
     let drawn = generator::generate(b, targets, lent);
-    rows(drawn.rows(), lent, line.answer(drawn.answer()))
+    shown(drawn, lent, line)
 }
 
 pub fn generate(b: u32, room: usize, targets: &[i32], line: Line) -> Line {

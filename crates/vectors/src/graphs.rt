@@ -27,25 +27,14 @@ fn fill(out: &mut [i64]) {
     }
 }
 
-// On a quiet line the buffer is not even walked through.
-fn shown_signed(a: Answer, lent: &[i64], line: Line) -> Line {
-    if line.quiet {
-        return line;
-    }
-    line.answer(a).all_signed(lent)
-}
-
-fn shown(a: Answer, lent: &[u32], line: Line) -> Line {
-    if line.quiet {
-        return line;
-    }
-    line.answer(a).all(lent)
-}
-
-fn multiplied(h: Head, ts: &[i32], rows: &[u32], lent: &mut [i64], line: Line) -> Line {
+fn multiplied(h: Head, ts: &[i32], rows: &[u32], lent: &mut [i64]) -> Answer {
     fill(lent);
-    let answer = products::multiply(h.b, ts, h.n, rows, input::signed(h.x), lent);
-    shown_signed(answer, lent, line)
+    products::multiply(h.b, ts, h.n, rows, input::signed(h.x), lent)
+}
+
+fn products_in(h: Head, ts: &[i32], rows: &[u32], lent: &mut [i64], line: Line) -> Line {
+    let answer = multiplied(h, ts, rows, lent);
+    line.answer(answer).all_signed(lent)
 }
 
 fn products(h: Head, ts: &[i32], rows: &[u32], line: Line) -> Line {
@@ -54,7 +43,7 @@ fn products(h: Head, ts: &[i32], rows: &[u32], line: Line) -> Line {
         return line;
     }
     let mut lent = [0i64; MOST_PRODUCTS];
-    multiplied(h, ts, rows, &mut lent[..room], line)
+    products_in(h, ts, rows, &mut lent[..room], line)
 }
 
 // Widths or the ranking.
@@ -65,10 +54,10 @@ fn measured(h: Head, ts: &[i32], rows: &[u32], lent: &mut [u32]) -> Answer {
     ranking::rank(h.b, ts, h.n, rows, h.x, lent)
 }
 
-fn sized(h: Head, ts: &[i32], rows: &[u32], lent: &mut [u32], line: Line) -> Line {
+fn sizes_in(h: Head, ts: &[i32], rows: &[u32], lent: &mut [u32], line: Line) -> Line {
     draws::fill(lent);
     let answer = measured(h, ts, rows, lent);
-    shown(answer, lent, line)
+    line.answer(answer).all(lent)
 }
 
 fn sizes(h: Head, ts: &[i32], rows: &[u32], line: Line) -> Line {
@@ -77,16 +66,10 @@ fn sizes(h: Head, ts: &[i32], rows: &[u32], line: Line) -> Line {
         return line;
     }
     let mut lent = [0u32; MOST];
-    sized(h, ts, rows, &mut lent[..room], line)
+    sizes_in(h, ts, rows, &mut lent[..room], line)
 }
 
-fn call(h: Head, ts: &[i32], rows: &[u32], line: Line) -> Line {
-    if h.name == names::ADMIT {
-        return line.answer(constants::admit(h.b, ts));
-    }
-    if h.name == names::GENERATE {
-        return draws::generate(h.b, h.room, ts, line);
-    }
+fn on_graph(h: Head, ts: &[i32], rows: &[u32], line: Line) -> Line {
     if h.name == names::CHECK {
         return line.answer(graph::check(h.b, ts, h.n, rows));
     }
@@ -96,70 +79,72 @@ fn call(h: Head, ts: &[i32], rows: &[u32], line: Line) -> Line {
     sizes(h, ts, rows, line)
 }
 
+// Behind the targets of a graph stand the number of its rows and their words.
+fn with_rest(h: Head, ts: &[i32], rest: &[u32], line: Line) -> Line {
+    if h.name == names::ADMIT {
+        return line.answer(constants::admit(h.b, ts));
+    }
+    if h.name == names::GENERATE {
+        return draws::generate(h.b, h.room, ts, line);
+    }
+    if rest.len() == 0 {
+        return line;
+    }
+    on_graph(h, ts, &rest[1..], line)
+}
+
 // The words are the targets.
-fn with_targets(h: Head, words: &[u32], rows: &[u32], line: Line) -> Line {
+fn with_targets(h: Head, words: &[u32], rest: &[u32], line: Line) -> Line {
     let k = words.len();
     if MOST < k {
         return line;
     }
     let mut targets = [0i32; MOST];
     input::targets(words, &mut targets);
-    call(h, &targets[..k], rows, line)
+    with_rest(h, &targets[..k], rest, line)
 }
 
-fn headed(name: u64, x: u32, room: u32, b: u32, n: u32) -> Head {
+// b stands behind x and room, or is the first number.
+fn b_place(first: usize) -> usize {
+    if 2 < first {
+        return 2;
+    }
+    0
+}
+
+// Of a number that a call does not have, what is read is not used.
+fn headed(name: u64, words: &[u32], first: usize, end: usize) -> Head {
     Head {
         name,
-        x,
-        room: room as usize,
-        b,
-        n: n as usize,
+        x: input::at(words, 0),
+        room: input::at(words, 1) as usize,
+        b: input::at(words, b_place(first)),
+        n: input::at(words, end) as usize,
     }
 }
 
-// The words are b, the number of targets, the targets, the number of rows and the rows' words.
-fn graph(name: u64, x: u32, room: u32, words: &[u32], line: Line) -> Line {
-    let k = input::at(words, 1) as usize;
-    if words.len() < 3 {
-        return line;
+// The targets of some calls run to the end of the words.
+fn targets_end(name: u64, words: &[u32]) -> usize {
+    let end = names::last_target(name, words);
+    if end == usize::MAX {
+        return words.len();
     }
-    if words.len() - 3 < k {
-        return line;
-    }
-    let end = 2 + k;
-    let h = headed(name, x, room, words[0], words[end]);
-    with_targets(h, &words[2..end], &words[end + 1..], line)
+    end
 }
 
-// Before the words of a graph all calls but check have x or the input width, and the lent buffer's length.
 pub fn answer(name: u64, words: &[u32], line: Line) -> Line {
-    if name == names::CHECK {
-        return graph(name, 0, 0, words, line);
-    }
-    if words.len() < 2 {
+    let first = names::first_target(name);
+    let end = targets_end(name, words);
+    if end < first {
         return line;
     }
-    graph(name, words[0], words[1], &words[2..], line)
-}
-
-// The words are b and the targets.
-pub fn admit(words: &[u32], line: Line) -> Line {
-    if words.len() < 1 {
+    if words.len() < end {
         return line;
     }
     with_targets(
-        headed(names::ADMIT, 0, 0, words[0], 0),
-        &words[1..],
-        &words[0..0],
+        headed(name, words, first, end),
+        &words[first..end],
+        &words[end..],
         line,
     )
-}
-
-// The words are b, the lent buffer's length and the targets.
-pub fn generate(words: &[u32], line: Line) -> Line {
-    if words.len() < 2 {
-        return line;
-    }
-    let h = headed(names::GENERATE, 0, words[1], words[0], 0);
-    with_targets(h, &words[2..], &words[0..0], line)
 }

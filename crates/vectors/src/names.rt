@@ -44,8 +44,28 @@ pub fn packed(name: &[u8]) -> u64 {
     v
 }
 
-// Where a call's targets begin among its numbers; far behind them all for a call that takes none.
-fn first_target(name: u64) -> usize {
+// Where the targets of a call on a graph begin among its numbers: behind their number, b, and for all but check two
+// numbers more. 0 for another call.
+fn graph_targets(name: u64) -> usize
+    ensures { λ r. ⌜ r ≤ 4 ⌝ }
+{
+    if name == CHECK {
+        return 2;
+    }
+    if name == PRODUCTS {
+        return 4;
+    }
+    if name == WIDTHS {
+        return 4;
+    }
+    if name == RANKING {
+        return 4;
+    }
+    0
+}
+
+// Where a call's targets begin; far behind all its numbers for a call that takes none.
+pub fn first_target(name: u64) -> usize {
     if name == APART {
         return 0;
     }
@@ -55,34 +75,29 @@ fn first_target(name: u64) -> usize {
     if name == GENERATE {
         return 2;
     }
-    if graph_call(name) {
-        return target_count(name) + 1;
+    let first = graph_targets(name);
+    if first == 0 {
+        return usize::MAX;
     }
-    usize::MAX
+    first
 }
 
-// The calls on a graph, whose targets are counted, and others follow them.
-pub fn graph_call(name: u64) -> bool {
-    if name == CHECK {
-        return true;
+// The calls on a list of targets.
+pub fn takes_list(name: u64) -> bool {
+    let first = first_target(name);
+    if first == 0 {
+        return false;
     }
-    if name == PRODUCTS {
-        return true;
-    }
-    if name == WIDTHS {
-        return true;
-    }
-    name == RANKING
+    first < usize::MAX
 }
 
-// Where such a call's number of targets stands: behind b, before which all but check have two more numbers.
-fn target_count(name: u64) -> usize
-    ensures { λ r. ⌜ r ≤ 3 ⌝ }
-{
-    if name == CHECK {
-        return 1;
+// Where they end, as far as that is known: the others' targets are counted by the number before them.
+pub fn last_target(name: u64, words: &[u32]) -> usize {
+    let first = graph_targets(name);
+    if first == 0 {
+        return usize::MAX;
     }
-    3
+    first + input::at(words, first - 1) as usize
 }
 
 // The x of products is its first number.
@@ -95,12 +110,8 @@ fn first_x(name: u64, n: usize) -> bool {
 
 // Whether the n-th number, counted from 0, is signed: a target, or the x of products. The words are those before it.
 pub fn signed(name: u64, words: &[u32], n: usize) -> bool {
-    let first = first_target(name);
-    if n < first {
+    if n < first_target(name) {
         return first_x(name, n);
     }
-    if graph_call(name) {
-        return n - first < input::at(words, target_count(name)) as usize;
-    }
-    true
+    n < last_target(name, words)
 }

@@ -98,7 +98,11 @@ impl Line {
         self.word(a.number()).word(a.place())
     }
 
+    // On a quiet line the words are not even walked through.
     pub fn all(self, words: &[u32]) -> Line {
+        if self.quiet {
+            return self;
+        }
         let mut line = self;
         let mut k = 0;
         while k < words.len() {
@@ -109,6 +113,9 @@ impl Line {
     }
 
     pub fn all_signed(self, words: &[i64]) -> Line {
+        if self.quiet {
+            return self;
+        }
         let mut line = self;
         let mut k = 0;
         while k < words.len() {

@@ -11,11 +11,11 @@ returns c = search needs
 array-borrow-prefix-lent : tie.Need-array-borrow-prefix-lent
 array-borrow-prefix-lent c = search needs
 
-slice-aggregate-multiplied : tie.Need-slice-aggregate-multiplied
-slice-aggregate-multiplied c = sym (length-take-le _ _ (search needs))
+slice-aggregate-products-in : tie.Need-slice-aggregate-products-in
+slice-aggregate-products-in c = sym (length-take-le _ _ (search needs))
 
-multiplied-requires : tie.Need-multiplied-requires
-multiplied-requires c κs = search needs
+products-in-requires : tie.Need-products-in-requires
+products-in-requires c κs = search needs
 
 returns-2 : tie.Need-returns-2
 returns-2 c = search needs
@@ -26,6 +26,6 @@ products-spec =
     (tie.spec
     returns
     array-borrow-prefix-lent
-    slice-aggregate-multiplied
-    multiplied-requires
+    slice-aggregate-products-in
+    products-in-requires
     returns-2)

@@ -11,11 +11,11 @@ returns c = search needs
 array-borrow-prefix-lent : tie.Need-array-borrow-prefix-lent
 array-borrow-prefix-lent c = search needs
 
-slice-aggregate-sized : tie.Need-slice-aggregate-sized
-slice-aggregate-sized c = sym (length-take-le _ _ (search needs))
+slice-aggregate-sizes-in : tie.Need-slice-aggregate-sizes-in
+slice-aggregate-sizes-in c = sym (length-take-le _ _ (search needs))
 
-sized-requires : tie.Need-sized-requires
-sized-requires c κs = search needs
+sizes-in-requires : tie.Need-sizes-in-requires
+sizes-in-requires c κs = search needs
 
 returns-2 : tie.Need-returns-2
 returns-2 c = search needs
@@ -23,4 +23,4 @@ returns-2 c = search needs
 pub sizes-spec : {M : Type 1} → statement M
 sizes-spec =
     tie.close
-    (tie.spec returns array-borrow-prefix-lent slice-aggregate-sized sized-requires returns-2)
+    (tie.spec returns array-borrow-prefix-lent slice-aggregate-sizes-in sizes-in-requires returns-2)

@@ -17,11 +17,11 @@ targets-requires c κs = search needs
 array-share-prefix-targets : tie.Need-array-share-prefix-targets
 array-share-prefix-targets c = search needs
 
-slice-aggregate-call : tie.Need-slice-aggregate-call
-slice-aggregate-call c = sym (length-take-le _ _ (search needs))
+slice-aggregate-with-rest : tie.Need-slice-aggregate-with-rest
+slice-aggregate-with-rest c = sym (length-take-le _ _ (search needs))
 
-call-requires : tie.Need-call-requires
-call-requires c κs = search needs
+with-rest-requires : tie.Need-with-rest-requires
+with-rest-requires c κs = search needs
 
 returns-2 : tie.Need-returns-2
 returns-2 c = search needs
@@ -34,6 +34,6 @@ with-targets-spec =
     slice-aggregate-targets
     targets-requires
     array-share-prefix-targets
-    slice-aggregate-call
-    call-requires
+    slice-aggregate-with-rest
+    with-rest-requires
     returns-2)

@@ -11,6 +11,9 @@ Inv-loop words line₀ k₀ line k = k ≤ length words
 abbrev μ-loop : tie.MeasureT-loop
 μ-loop words line₀ k₀ line k = length words - k
 
+returns : tie.Need-returns Inv-loop μ-loop
+returns c = search needs
+
 loop-holds : tie.Need-loop-holds Inv-loop μ-loop
 loop-holds c = search needs
 
@@ -32,8 +35,8 @@ loop-less c = search needs
 loop-again : tie.Need-loop-again Inv-loop μ-loop
 loop-again c = search needs
 
-returns : tie.Need-returns Inv-loop μ-loop
-returns c = search needs
+returns-2 : tie.Need-returns-2 Inv-loop μ-loop
+returns-2 c = search needs
 
 pub all-spec : {M : Type 1} → statement M
 all-spec =
@@ -41,6 +44,7 @@ all-spec =
     (tie.spec
     Inv-loop
     μ-loop
+    returns
     loop-holds
     mul-word
     shared-slice-read-word
@@ -48,4 +52,4 @@ all-spec =
     add-k
     loop-less
     loop-again
-    returns)
+    returns-2)
