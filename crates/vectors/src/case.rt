@@ -1,11 +1,11 @@
 // One line: the call's name and its numbers or its text, and the answer.
 use crate::draws;
 use crate::graphs;
-use crate::input;
 use crate::jobs;
 use crate::leaves;
-use crate::names;
-use crate::print::Line;
+use cases::input;
+use cases::names;
+use cases::print::Line;
 
 // A longer line is not in the format.
 pub const LONGEST: usize = 16384;

@@ -1,5 +1,5 @@
 // One case of distance and one of the generator.
-use crate::print::Line;
+use cases::print::Line;
 use meaning::Answer;
 use meaning::Drawn;
 use meaning::Far;

@@ -1,9 +1,9 @@
 // One case of each call on targets, most of them with a graph. A lent buffer is filled before the call and printed whole
 // after it, so that what a call may not touch is seen too.
 use crate::draws;
-use crate::input;
-use crate::names;
-use crate::print::Line;
+use cases::input;
+use cases::names;
+use cases::print::Line;
 use draws::MOST;
 use meaning::Answer;
 

@@ -1,7 +1,7 @@
 // One case of a job's text: what the program would print for it.
 use crate::draws::MOST;
-use crate::escape;
-use crate::print::Line;
+use cases::escape;
+use cases::print::Line;
 use meaning::Printed;
 
 fn listed(text: &[u8], line: Line) -> Line {

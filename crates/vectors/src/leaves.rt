@@ -1,7 +1,7 @@
 // One case of each leaf call.
-use crate::input;
-use crate::names;
-use crate::print::Line;
+use cases::input;
+use cases::names;
+use cases::print::Line;
 use meaning::Operated;
 use meaning::Prefix;
 

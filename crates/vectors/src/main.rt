@@ -2,15 +2,12 @@
 // tests/README.md has the lines' format.
 mod case;
 mod draws;
-mod escape;
 mod graphs;
-mod input;
 mod jobs;
 mod leaves;
-mod names;
-mod print;
 
 use case::LONGEST;
+use cases::input;
 use libc::STDIN_FILENO;
 
 // Answers every whole line, and says where the rest begins.

@@ -2,8 +2,8 @@
 use Prim.Native.Nat.{_≤_, _-_}
 use lib.ListN.{length}
 use borrow.Author.Needs.{needs}
-use Rattle.vectors.proofs.input.value.Statement.{statement}
-use Rattle.vectors.proofs.input.value.Tie as tie
+use Rattle.cases.proofs.input.value.Statement.{statement}
+use Rattle.cases.proofs.input.value.Tie as tie
 
 abbrev Inv-loop : tie.InvT-loop
 Inv-loop bytes from v₀ k₀ v k = v ≤ 4294967299

@@ -6,8 +6,8 @@ use mir.Syntax.{w32}
 use mir.Val.{SFits}
 use mir.ValLaws.{toZ-pos}
 use borrow.Author.Needs.{needs}
-use Rattle.vectors.proofs.input.signed.Statement.{statement}
-use Rattle.vectors.proofs.input.signed.Tie as tie
+use Rattle.cases.proofs.input.signed.Statement.{statement}
+use Rattle.cases.proofs.input.signed.Tie as tie
 
 below : (m : ℕ) → m < 2 ^ 31 → SFits w32 (negsuc 0 -ℤ pos m)
 below zero h = omega arith

@@ -3,8 +3,8 @@ use mathlib.Core.Path.{_≡_}
 use Prim.Native.Nat.{_≤_, _-_}
 use lib.ListN.{length}
 use borrow.Author.Needs.{needs}
-use Rattle.vectors.proofs.input.targets.Statement.{statement}
-use Rattle.vectors.proofs.input.targets.Tie as tie
+use Rattle.cases.proofs.input.targets.Statement.{statement}
+use Rattle.cases.proofs.input.targets.Tie as tie
 
 abbrev Inv-loop : tie.InvT-loop
 Inv-loop words out₀ k₀ out k = (k ≤ length out₀) × (length out ≡ length out₀)

@@ -2,8 +2,8 @@
 use Prim.Native.Nat.{_≤_, _-_}
 use lib.ListN.{length}
 use borrow.Author.Needs.{needs}
-use Rattle.vectors.proofs.input.find.Statement.{statement}
-use Rattle.vectors.proofs.input.find.Tie as tie
+use Rattle.cases.proofs.input.find.Statement.{statement}
+use Rattle.cases.proofs.input.find.Tie as tie
 
 abbrev Inv-loop : tie.InvT-loop
 Inv-loop bytes from stop k₀ k = (from ≤ k) × (k ≤ length bytes)

@@ -2,8 +2,8 @@
 use Prim.Native.Nat.{_≤_, _-_}
 use lib.ListN.{length}
 use borrow.Author.Needs.{needs}
-use Rattle.vectors.proofs.names.packed.Statement.{statement}
-use Rattle.vectors.proofs.names.packed.Tie as tie
+use Rattle.cases.proofs.names.packed.Statement.{statement}
+use Rattle.cases.proofs.names.packed.Tie as tie
 
 abbrev Inv-loop : tie.InvT-loop
 Inv-loop name v₀ k₀ v k = k ≤ length name

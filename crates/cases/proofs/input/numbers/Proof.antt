@@ -3,8 +3,8 @@ use mathlib.Core.Path.{_≡_}
 use Prim.Native.Nat.{_-_}
 use lib.ListN.{length}
 use borrow.Author.Needs.{needs}
-use Rattle.vectors.proofs.input.numbers.Statement.{statement}
-use Rattle.vectors.proofs.input.numbers.Tie as tie
+use Rattle.cases.proofs.input.numbers.Statement.{statement}
+use Rattle.cases.proofs.input.numbers.Tie as tie
 
 abbrev Inv-loop : tie.InvT-loop
 Inv-loop name line words₀ at₀ n₀ words at n = length words ≡ length words₀

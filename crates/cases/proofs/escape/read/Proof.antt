@@ -3,8 +3,8 @@ use mathlib.Core.Path.{_≡_}
 use Prim.Native.Nat.{_-_}
 use lib.ListN.{length}
 use borrow.Author.Needs.{needs}
-use Rattle.vectors.proofs.escape.read.Statement.{statement}
-use Rattle.vectors.proofs.escape.read.Tie as tie
+use Rattle.cases.proofs.escape.read.Statement.{statement}
+use Rattle.cases.proofs.escape.read.Tie as tie
 
 abbrev Inv-loop : tie.InvT-loop
 Inv-loop line text₀ at₀ n₀ text at n = length text ≡ length text₀

@@ -4,8 +4,8 @@ use native.Mathlib.Omega.{arith}
 use lib.ListN.{length}
 use lib.Seq.{length-take-le}
 use borrow.Author.Needs.{needs}
-use Rattle.vectors.proofs.print.Line.write.Statement.{statement}
-use Rattle.vectors.proofs.print.Line.write.Tie as tie
+use Rattle.cases.proofs.print.Line.write.Statement.{statement}
+use Rattle.cases.proofs.print.Line.write.Tie as tie
 
 places : (c : tie.Start) → length (c .args .self .text) ≡ 1024
 places c = search needs
