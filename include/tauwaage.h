@@ -14,7 +14,7 @@
  * call alone: no call keeps a pointer, takes memory from the heap or has a state, so calls may run side by side. A pointer
  * is to be aligned for its type, and to as many elements as are said, of less than 2^63 bytes in all; a slice that is
  * written must not overlap another of the same call. Of a slice with no elements nothing is read or written, but the pointer
- * must not be null: any pointer to the type will do. tauwaage_generate, tauwaage_distance and tauwaage_job take 64 KB of
+ * must not be null: any pointer to the type will do. tauwaage_generate, tauwaage_distance and tauwaage_job take 70 KB of
  * stack and a little more.
  *
  * The answer of each call is one signed 64-bit number. 0 or more is what the call says below; less than 0 is a refusal,
