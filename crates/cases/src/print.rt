@@ -95,7 +95,10 @@ impl Line {
     }
 
     pub fn answer(self, a: Answer) -> Line {
-        self.word(a.number()).word(a.place())
+        match a {
+            Answer::Accepted => self.word(0).word(0),
+            Answer::Refused(why) => self.word(why.number()).word(why.place()),
+        }
     }
 
     // On a quiet line the words are not even walked through.

@@ -1,3 +1,2 @@
--- What is shown of the codes, and what the proofs share.
-pub mod Laws
+-- What the proofs share.
 pub mod Handed

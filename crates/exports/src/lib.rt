@@ -1,43 +1,12 @@
-// The calls for programs in other languages: numbers and slices in, one signed number out (specs/Codes.antt). Slices are lent
-// for the call alone; include/tauwaage.h says the rest.
+// The calls for programs in other languages: numbers and slices in, one signed number out (codes/specs/Codes.antt). Slices are
+// lent for the call alone; include/tauwaage.h says the rest.
 use meaning::Answer;
-use meaning::Printed;
-use meaning::Refusal;
 ghost use mathlib.Core.Path.{_≡_};
-ghost use Prim.Native.Nat.{_+_, _^_, _<_};
+ghost use Prim.Native.Nat.{_+_};
 ghost use lib.ListN.{length};
-ghost use Rattle.meaning.specs.declared.Answer.the-variants.{Accepted};
 ghost use Rattle.meaning.specs.Listing.{printedTold, textWritten};
 ghost use Rattle.meaning.specs.Refusals.{Done, checked, multiplied, productsWritten, measured, widthsWritten, ranked, rankingWritten, drawnTold, rowsWritten, distanceTold};
-ghost use Rattle.exports.specs.Codes.{minus, refusalCode, coded, drawnCode, farCode, printedCode};
-
-// -k
-fn negative(k: u64) -> i64
-    requires { ⌜ k < 2 ^ 63 ⌝ }
-    ensures { λ r. ⌜ r ≡ minus k ⌝ }
-{
-    0 - (k as i64)
-}
-
-// A refusal's code: never 0 or more.
-fn refused(why: Refusal) -> i64
-    ensures { λ r. ⌜ r ≡ refusalCode why ⌝ }
-{
-    let number = why.number() as u64;
-    let place = why.place() as u64;
-    negative(1000 * number + place)
-}
-
-// The code of an answer, with n for acceptance.
-fn code(answer: Answer, n: usize) -> i64
-    requires { ⌜ (answer ≡ Accepted → n < 2 ^ 63) ⌝ }
-    ensures { λ r. ⌜ r ≡ coded answer n ⌝ }
-{
-    match answer {
-        Answer::Accepted => n as i64,
-        Answer::Refused(why) => refused(why),
-    }
-}
+ghost use Rattle.codes.specs.Codes.{coded, drawnCode, farCode, printedCode};
 
 // The rows of the generator's rule over the front of words; answers how many they are.
 #[no_mangle]
@@ -48,9 +17,7 @@ pub extern "C" fn tauwaage_generate(bits: u32, targets: &[i32], words: &mut [u32
         ⌝ }
 {
     let drawn = generator::generate(bits, targets, words);
-    let answer = drawn.answer();
-    let drawn_rows = drawn.rows() as usize;
-    code(answer, drawn_rows)
+    codes::of_drawn(drawn)
 }
 
 // Checks any graph; answers 0.
@@ -58,7 +25,7 @@ pub extern "C" fn tauwaage_generate(bits: u32, targets: &[i32], words: &mut [u32
 pub extern "C" fn tauwaage_check(bits: u32, targets: &[i32], rows: usize, words: &[u32]) -> i64
     ensures { λ r. ⌜ r ≡ coded (checked bits (now (targets .entry)) rows (now (words .entry))) 0 ⌝ }
 {
-    code(graph::check(bits, targets, rows, words), 0)
+    codes::of_answer(graph::check(bits, targets, rows, words), 0)
 }
 
 // A product for each target over the front of out; answers how many they are.
@@ -77,7 +44,7 @@ pub extern "C" fn tauwaage_products(
         ⌝ }
 {
     let answer = products::multiply(bits, targets, rows, words, x, out);
-    code(answer, targets.len())
+    codes::of_answer(answer, targets.len())
 }
 
 // The widths of the rows and then of the outputs over the front of out; answers how many they are.
@@ -98,8 +65,8 @@ pub extern "C" fn tauwaage_widths(
     let answer = widths::measure(bits, targets, rows, words, input, out);
     // the sum can wrap where the call refuses
     match answer {
-        Answer::Accepted => code(Answer::Accepted, rows + targets.len()),
-        Answer::Refused(why) => refused(why),
+        Answer::Accepted => codes::of_answer(Answer::Accepted, rows + targets.len()),
+        Answer::Refused(why) => codes::of_answer(Answer::Refused(why), 0),
     }
 }
 
@@ -119,7 +86,7 @@ pub extern "C" fn tauwaage_ranking(
         ⌝ }
 {
     let answer = ranking::rank(bits, targets, rows, words, input, out);
-    code(answer, rows)
+    codes::of_answer(answer, rows)
 }
 
 // How far a constant is from a ready list: 0, 1, 2, and 3 for beyond.
@@ -127,10 +94,7 @@ pub extern "C" fn tauwaage_ranking(
 pub extern "C" fn tauwaage_distance(bits: u32, ready: &[u32], target: u32) -> i64
     ensures { λ r. ⌜ r ≡ farCode (distanceTold bits (now (ready .entry)) target) ⌝ }
 {
-    let far = distance::distance(bits, ready, target);
-    let answer = far.answer();
-    let steps = far.steps() as usize;
-    code(answer, steps)
+    codes::of_far(distance::distance(bits, ready, target))
 }
 
 // A job's listing, or the line of its refusal, over the front of out; answers its bytes.
@@ -142,8 +106,5 @@ pub extern "C" fn tauwaage_job(text: &[u8], out: &mut [u8]) -> i64
         ⌝ }
 {
     let printed = reply::answer(text, out);
-    match printed {
-        Printed::Bytes(n) => code(Answer::Accepted, n),
-        Printed::Refused(why) => refused(why),
-    }
+    codes::of_printed(printed)
 }

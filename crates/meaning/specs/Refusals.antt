@@ -55,39 +55,6 @@ placeOf (no.Ready p) = p
 placeOf no.Target = 0
 placeOf (no.Job p) = p
 
--- of an answer: 0 and 0 where nothing is refused
-abbrev pub toldNumber : Answer → ℕ
-toldNumber Accepted = 0
-toldNumber (Refused why) = number why
-
-abbrev pub toldPlace : Answer → ℕ
-toldPlace Accepted = 0
-toldPlace (Refused why) = placeOf why
-
--- of a distance: 0, 1, 2 operations, and 3 for beyond
-abbrev pub farSteps : Far → ℕ
-farSteps far.Zero = 0
-farSteps far.One = 1
-farSteps far.Two = 2
-farSteps far.Beyond = 3
-farSteps (far.Refused why) = 0
-
-abbrev pub farAnswer : Far → Answer
-farAnswer far.Zero = Accepted
-farAnswer far.One = Accepted
-farAnswer far.Two = Accepted
-farAnswer far.Beyond = Accepted
-farAnswer (far.Refused why) = Refused why
-
--- of the generator: its rows
-abbrev pub drawnRows : Drawn → ℕ
-drawnRows (out.Rows n) = n
-drawnRows (out.Refused why) = 0
-
-abbrev pub drawnAnswer : Drawn → Answer
-drawnAnswer (out.Rows n) = Accepted
-drawnAnswer (out.Refused why) = Refused why
-
 -- ---- the situations
 
 -- refused unless every test passes

@@ -1,6 +1,6 @@
 // The shapes of the answers that the calls hand back. What each of them means stands in specs/.
 ghost use mathlib.Core.Path.{_≡_};
-ghost use Rattle.meaning.specs.Refusals.{number, placeOf, toldNumber, toldPlace, farSteps, farAnswer, drawnRows, drawnAnswer};
+ghost use Rattle.meaning.specs.Refusals.{number, placeOf};
 
 // A constant taken apart: sign × 2^shift × odd. Zero has sign 0, shift 0 and odd 0.
 pub struct Parts {
@@ -100,27 +100,6 @@ pub enum Answer {
     Refused(Refusal),
 }
 
-impl Answer {
-    // The refusal's number, 0 where there is none.
-    pub fn number(self) -> u32
-        ensures { λ r. ⌜ r ≡ toldNumber self ⌝ }
-    {
-        match self {
-            Answer::Accepted => 0,
-            Answer::Refused(why) => why.number(),
-        }
-    }
-
-    pub fn place(self) -> u32
-        ensures { λ r. ⌜ r ≡ toldPlace self ⌝ }
-    {
-        match self {
-            Answer::Accepted => 0,
-            Answer::Refused(why) => why.place(),
-        }
-    }
-}
-
 // How far a constant is from a list.
 pub enum Far {
     Zero,
@@ -130,58 +109,10 @@ pub enum Far {
     Refused(Refusal),
 }
 
-impl Far {
-    // 0, 1 or 2 operations, and 3 for beyond; 0 where it is refused.
-    pub fn steps(self) -> u32
-        ensures { λ r. ⌜ r ≡ farSteps self ⌝ }
-    {
-        match self {
-            Far::Zero => 0,
-            Far::One => 1,
-            Far::Two => 2,
-            Far::Beyond => 3,
-            Far::Refused(_) => 0,
-        }
-    }
-
-    pub fn answer(self) -> Answer
-        ensures { λ r. ⌜ r ≡ farAnswer self ⌝ }
-    {
-        match self {
-            Far::Zero => Answer::Accepted,
-            Far::One => Answer::Accepted,
-            Far::Two => Answer::Accepted,
-            Far::Beyond => Answer::Accepted,
-            Far::Refused(why) => Answer::Refused(why),
-        }
-    }
-}
-
 // How many rows the generator has written.
 pub enum Drawn {
     Rows(u32),
     Refused(Refusal),
-}
-
-impl Drawn {
-    // 0 where it is refused.
-    pub fn rows(self) -> u32
-        ensures { λ r. ⌜ r ≡ drawnRows self ⌝ }
-    {
-        match self {
-            Drawn::Rows(n) => n,
-            Drawn::Refused(_) => 0,
-        }
-    }
-
-    pub fn answer(self) -> Answer
-        ensures { λ r. ⌜ r ≡ drawnAnswer self ⌝ }
-    {
-        match self {
-            Drawn::Rows(_) => Answer::Accepted,
-            Drawn::Refused(why) => Answer::Refused(why),
-        }
-    }
 }
 
 // A number at a place of a text and the place behind it, or that none stands there.

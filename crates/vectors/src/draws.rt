@@ -44,7 +44,10 @@ fn rows(rows: u32, lent: &[u32], line: Line) -> Line {
 }
 
 fn shown(drawn: Drawn, lent: &[u32], line: Line) -> Line {
-    rows(drawn.rows(), lent, line.answer(drawn.answer()))
+    match drawn {
+        Drawn::Rows(n) => rows(n, lent, line.answer(Answer::Accepted)),
+        Drawn::Refused(why) => rows(0, lent, line.answer(Answer::Refused(why))),
+    }
 }
 
 fn drawn(b: u32, targets: &[i32], lent: &mut [u32], line: Line) -> Line {
@@ -62,11 +65,13 @@ pub fn generate(b: u32, room: usize, targets: &[i32], line: Line) -> Line {
 }
 
 fn told(far: Far, line: Line) -> Line {
-    let answer = far.answer();
-    let Answer::Accepted = answer else {
-        return line.answer(answer);
-    };
-    line.answer(answer).word(far.steps())
+    match far {
+        Far::Zero => line.answer(Answer::Accepted).word(0),
+        Far::One => line.answer(Answer::Accepted).word(1),
+        Far::Two => line.answer(Answer::Accepted).word(2),
+        Far::Beyond => line.answer(Answer::Accepted).word(3),
+        Far::Refused(why) => line.answer(Answer::Refused(why)),
+    }
 }
 
 // The words are b, the target and the ready list. A refusal has no distance to print.

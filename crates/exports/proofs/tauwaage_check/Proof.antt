@@ -7,17 +7,17 @@ use Rattle.exports.proofs.Handed.{coded-is}
 use Rattle.exports.proofs.tauwaage_check.Statement.{statement}
 use Rattle.exports.proofs.tauwaage_check.Tie as tie
 
-fit : (c : tie.After-code) → SFits w64 (c .code .result)
+fit : (c : tie.After-of-answer) → SFits w64 (c .of-answer .result)
 fit c = search needs
 
 check-requires : tie.Need-check-requires
 check-requires c κs = search needs
 
-code-requires : tie.Need-code-requires
-code-requires c κs = search needs
+of-answer-requires : tie.Need-of-answer-requires
+of-answer-requires c κs = search needs
 
 returns : tie.Need-returns
-returns c = coded-is _ _ _ _ _ (fit c) (c .code .ensures) (omega arith) (c .before .check .ensures)
+returns c = coded-is _ _ _ _ _ (fit c) (c .of-answer .ensures) (omega arith) (c .before .check .ensures)
 
 pub tauwaage-check-spec : {M : Type 1} → statement M
-tauwaage-check-spec = tie.close (tie.spec check-requires code-requires returns)
+tauwaage-check-spec = tie.close (tie.spec check-requires of-answer-requires returns)

@@ -8,14 +8,14 @@ use Rattle.exports.proofs.Handed.{coded-done}
 use Rattle.exports.proofs.tauwaage_products.Statement.{statement}
 use Rattle.exports.proofs.tauwaage_products.Tie as tie
 
-fit : (c : tie.After-code) → SFits w64 (c .code .result)
+fit : (c : tie.After-of-answer) → SFits w64 (c .of-answer .result)
 fit c = search needs
 
 multiply-requires : tie.Need-multiply-requires
 multiply-requires c κs = search needs
 
-code-requires : tie.Need-code-requires
-code-requires c κs = search needs
+of-answer-requires : tie.Need-of-answer-requires
+of-answer-requires c κs = search needs
 
 same-length : tie.Need-same-length
 same-length c = search needs
@@ -23,7 +23,8 @@ same-length c = search needs
 returns : tie.Need-returns
 returns c =
     let d = c .before .before in
-    coded-done _ _ _ _ _ _ _ _ (fit c) (c .code .ensures) (omega arith) (rw (toZ-ofZ w32 _ (d .before .before .before .fits .x)) at (d .multiply .ensures))
+    coded-done _ _ _ _ _ _ _ _ (fit c) (c .of-answer .ensures) (omega arith) (rw (toZ-ofZ w32 _ (d .before .before .before .fits .x)) at (d .multiply .ensures))
 
 pub tauwaage-products-spec : {M : Type 1} → statement M
-tauwaage-products-spec = tie.close (tie.spec multiply-requires code-requires same-length returns)
+tauwaage-products-spec =
+    tie.close (tie.spec multiply-requires of-answer-requires same-length returns)

@@ -6,14 +6,14 @@ use borrow.Author.Needs.{needs}
 use mir.Syntax.{w64}
 use mir.Val.{SFits}
 use Rattle.meaning.specs.Refusals.{mostRows}
-use Rattle.exports.proofs.Handed.{accepted-coded, refused-coded, coded-done, measured-rows}
+use Rattle.exports.proofs.Handed.{coded-done, accepted-coded, refused-coded, measured-rows}
 use Rattle.exports.proofs.tauwaage_widths.Statement.{statement}
 use Rattle.exports.proofs.tauwaage_widths.Tie as tie
 
-fit : (c : tie.After-code) → SFits w64 (c .code .result)
+fit : (c : tie.After-of-answer) → SFits w64 (c .of-answer .result)
 fit c = search needs
 
-fit2 : (c : tie.After-refused) → SFits w64 (c .refused .result)
+fit2 : (c : tie.After-of-answer2) → SFits w64 (c .of-answer2 .result)
 fit2 c = search needs
 
 few : (c : tie.After-enum-told) → c .before .before .before .before .before .before .before .before .args .rows ≤ mostRows
@@ -25,17 +25,17 @@ measure-requires c κs = search needs
 enum-told : tie.Need-enum-told
 enum-told c = search needs
 
-add-code : tie.Need-add-code
-add-code c = omega (arith, few c)
+add-of-answer : tie.Need-add-of-answer
+add-of-answer c = omega (arith, few c)
 
-code-requires : tie.Need-code-requires
-code-requires c κs = λ e. omega (arith, few c)
+of-answer-requires : tie.Need-of-answer-requires
+of-answer-requires c κs = λ e. omega (arith, few c)
 
 enum-known-answer : tie.Need-enum-known-answer
 enum-known-answer c = search needs
 
-refused-requires : tie.Need-refused-requires
-refused-requires c κs = search needs
+of-answer-requires-2 : tie.Need-of-answer-requires-2
+of-answer-requires-2 c κs = search needs
 
 same-length : tie.Need-same-length
 same-length c = search needs
@@ -43,7 +43,7 @@ same-length c = search needs
 returns : tie.Need-returns
 returns c =
     let d = c .before .before .before .before .before in
-    coded-done _ _ _ _ _ _ _ _ (fit c) (c .code .ensures ∙ accepted-coded _ _ (c .before .enum-told .given .1)) (omega arith) (d .measure .ensures)
+    coded-done _ _ _ _ _ _ _ _ (fit c) (c .of-answer .ensures ∙ accepted-coded _ _ (c .before .enum-told .given .1)) (omega arith) (d .measure .ensures)
 
 same-length-2 : tie.Need-same-length-2
 same-length-2 c = search needs
@@ -51,7 +51,7 @@ same-length-2 c = search needs
 returns-2 : tie.Need-returns-2
 returns-2 c =
     let d = c .before .before .before .before .before .before in
-    coded-done _ _ _ _ _ _ _ _ (fit2 c) (c .refused .ensures ∙ refused-coded _ _ _ (c .before .before .answer .given .1)) refl (d .measure .ensures)
+    coded-done _ _ _ _ _ _ _ _ (fit2 c) (c .of-answer2 .ensures ∙ refused-coded _ _ _ _ (c .before .before .answer .given .1)) refl (d .measure .ensures)
 
 pub tauwaage-widths-spec : {M : Type 1} → statement M
 tauwaage-widths-spec =
@@ -59,10 +59,10 @@ tauwaage-widths-spec =
     (tie.spec
     measure-requires
     enum-told
-    add-code
-    code-requires
+    add-of-answer
+    of-answer-requires
     enum-known-answer
-    refused-requires
+    of-answer-requires-2
     same-length
     returns
     same-length-2
