@@ -1,22 +1,19 @@
--- A row agrees with a valid operation exactly if what the operation makes is its r and value; a row of a slice, read and written, as code meets it. Assumes nothing.
+-- A row agrees with a valid operation exactly if what the operation makes is its r and value; and the stages at which a row of a slice is refused. Assumes nothing.
 use mathlib.Core.Path.{_≡_, refl, sym, ap, ap₂, _∙_, subst⁻¹, subst₂}
 use mathlib.Core.List.{List}
 use mathlib.Core.Bool.{Bool, true, false, _&&_, cond}
-use Prim.Native.Nat.{ℕ, zero, suc, _+_, _*_, _/_, _≤_, _<_}
+use Prim.Native.Nat.{ℕ, suc, _+_, _*_, _/_, _≤_, _<_}
 use native.Mathlib.Omega.{arith}
 use borrow.Author.Tests.{le-leb, lt-leb, lt-ltb, le-ltb}
-use lib.Dec.{T, leb, ltb, eqb, eqb→eq}
+use lib.Dec.{T, leb, eqb, eqb→eq}
 use lib.IntN.{ℤ}
-use native.Mathlib.Numerals.{add-one, add-two, add-three, add-four, add-five, add-six}
-use lib.ListN.{length, getD, set}
+use lib.ListN.{length, getD}
 use Rattle.meaning.specs.declared.Operated.{Operated}
 use Rattle.meaning.specs.declared.Operated.the-variants.{Made, Invalid}
 use Rattle.meaning.specs.declared.Row.{Row}
-use Rattle.meaning.specs.Basics.{after}
 use Rattle.meaning.specs.Limits.{limit}
-use Rattle.meaning.specs.Graph.{rowLength, words, rowAt, rows, ready, fits?, rowFits}
+use Rattle.meaning.specs.Graph.{rowLength, rowAt, rows, ready, fits?, rowFits}
 use Rattle.laws.proofs.Graphs.{length-ready}
-use Rattle.laws.proofs.Over.{after-sets}
 use Rattle.meaning.specs.Operation.{Valid, valid?, operated, operatedUnder, whole}
 use Rattle.laws.proofs.Tests.{both-of, of-both, true-of, false-of, T-of, bool-ext, eq→eqb}
 use Rattle.laws.proofs.Operations.{valid-of-test, test-of-valid, operated-made, operated-valid}
@@ -125,10 +122,3 @@ module _ (b : ℕ) (w : List ℕ) (i : ℕ) where
       → t ≡ ((leb 2 b && leb b 16) && valid? (limit b) p q (z .l1) (z .l2) (z .s) (z .r) (z .value)) → t ≡ rowFits b w i) e
       (λ k l f g a.
       a ∙ ap₂ (λ m n. (leb 2 b && leb b 16) && valid? (limit b) m n (x .l1) (x .l2) (x .s) (x .r) (x .value)) f g ∙ fits-inside h k l)
-
--- ---- a row written
-
-pub stored : (l : List ℕ) (a : ℕ) (x : Row) → a + rowLength ≤ length l
-    → set (set (set (set (set (set (set l a (x .u)) (a + 1) (x .v)) (a + 2) (x .l1)) (a + 3) (x .l2)) (a + 4) (x .s)) (a + 5) (x .r)) (a + 6) (x .value)
-    ≡ after a (words x) l
-stored l a x h = rw (add-one a, add-two a, add-three a, add-four a, add-five a, add-six a) (after-sets a (words x) l h)

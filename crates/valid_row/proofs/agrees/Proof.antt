@@ -1,9 +1,9 @@
 -- `agrees` meets its contract: what the operation makes is held to the row's r and value. Assumes nothing.
-use mathlib.Core.Path.{_≡_, sym, _∙_}
+use mathlib.Core.Path.{sym, _∙_}
 use borrow.Author.Needs.{needs}
-use Rattle.rows.proofs.Laws.{agrees-invalid, agrees-other, agrees-value}
-use Rattle.rows.proofs.agrees.Statement.{statement}
-use Rattle.rows.proofs.agrees.Tie as tie
+use Rattle.valid_row.proofs.Laws.{agrees-invalid, agrees-other, agrees-value}
+use Rattle.valid_row.proofs.agrees.Statement.{statement}
+use Rattle.valid_row.proofs.agrees.Tie as tie
 
 operate-requires : tie.Need-operate-requires
 operate-requires c κs = search needs

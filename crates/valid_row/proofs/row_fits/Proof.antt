@@ -1,11 +1,8 @@
 -- `row_fits` meets its contract. Assumes nothing.
-use mathlib.Core.Path.{_≡_, refl, sym, ap, _∙_}
-use Prim.Native.Nat.{ℕ, _≤_}
-use native.Mathlib.Omega.{arith}
 use borrow.Author.Needs.{needs}
-use Rattle.rows.proofs.Laws.{fits-outside, fits-first, fits-second, fits-read}
-use Rattle.rows.proofs.row_fits.Statement.{statement}
-use Rattle.rows.proofs.row_fits.Tie as tie
+use Rattle.valid_row.proofs.Laws.{fits-outside, fits-first, fits-second, fits-read}
+use Rattle.valid_row.proofs.row_fits.Statement.{statement}
+use Rattle.valid_row.proofs.row_fits.Tie as tie
 
 returns : tie.Need-returns
 returns c = fits-outside _ _ _ (c .if1 .taken)
