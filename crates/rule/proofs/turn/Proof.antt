@@ -9,13 +9,14 @@ use lib.ListN.{length, getD}
 use Rattle.meaning.specs.declared.Row.{Row}
 use Rattle.meaning.specs.Digits.{prefixes}
 use Rattle.meaning.specs.Generator.{rowFor, ruleA, ruleC, turn}
-use Rattle.constants.specs.Held.{kept}
+use Rattle.wanted.specs.Held.{kept}
+use Rattle.wanted.proofs.Kept.{kept-at, kept-inside, kept-in, kept-nothing}
 use Rattle.ready.specs.Listed.{listed}
 use Rattle.draft.specs.Growth.{Open, Grown, atMostOne}
 use Rattle.draft.proofs.Laws.{grown-none, grown-then, open-on, open-less}
 use Rattle.rule.specs.declared.Chosen.{Chosen}
 use Rattle.rule.specs.Rule.{Serves, Picked, NoneNear}
-use Rattle.rule.proofs.Laws.{kept-at, kept-inside, kept-in, kept-nothing, Nearest, near-inside, near-at, near-nothing, row-value, turn-none, turn-a, turn-b, turn-c, turn-two}
+use Rattle.rule.proofs.Laws.{Nearest, near-inside, near-at, near-nothing, row-value, turn-none, turn-a, turn-b, turn-c, turn-two}
 use Rattle.rule.proofs.turn.Statement.{statement}
 use Rattle.rule.proofs.turn.Tie as tie
 

@@ -7,12 +7,13 @@ use native.Mathlib.Omega.{arith}
 use borrow.Author.Needs.{needs}
 use borrow.Author.Tests.{not-true, not-false}
 use lib.ListN.{length}
-use Rattle.constants.specs.declared.Wanted.{Wanted}
-use Rattle.constants.specs.Held.{kept}
+use Rattle.wanted.specs.declared.Wanted.{Wanted}
+use Rattle.wanted.specs.Held.{kept}
 use Rattle.ready.specs.Listed.{listed}
-use Rattle.rule.proofs.Laws.{kept-inside, kept-at, kept-end, Sifted, sift-start, sift-ready, sift-left, sift-end}
-use Rattle.rule.proofs.left.Statement.{statement}
-use Rattle.rule.proofs.left.Tie as tie
+use Rattle.wanted.proofs.Kept.{kept-inside, kept-at, kept-end}
+use Rattle.remaining.proofs.Laws.{Sifted, sift-start, sift-ready, sift-left, sift-end}
+use Rattle.remaining.proofs.left.Statement.{statement}
+use Rattle.remaining.proofs.left.Tie as tie
 
 abbrev Inv-loop : tie.InvT-loop
 Inv-loop set w r₀ i₀ r i = (i ≤ w .count) × Sifted (listed set) (kept w) r i
