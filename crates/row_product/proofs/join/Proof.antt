@@ -8,9 +8,9 @@ use mir.Syntax.{w64}
 use mir.Val.{SFits}
 use mir.ValLaws.{toZ-ofZ}
 use Rattle.numbers.proofs.Integers.{abs-add, abs-sub, abs-mul, abs-fits}
-use Rattle.products.proofs.Laws.{joined-minus}
-use Rattle.products.proofs.join.Statement.{statement}
-use Rattle.products.proofs.join.Tie as tie
+use Rattle.row_product.proofs.Laws.{joined-minus}
+use Rattle.row_product.proofs.join.Statement.{statement}
+use Rattle.row_product.proofs.join.Tie as tie
 
 fit-a : (c : tie.After-shifted) → SFits w64 (c .shifted .result)
 fit-a c = search needs

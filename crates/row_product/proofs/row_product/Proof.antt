@@ -1,5 +1,5 @@
 -- `row_product` meets its contract: no step is larger than 2^62. Assumes nothing.
-use mathlib.Core.Path.{_≡_, ap, _∙_}
+use mathlib.Core.Path.{_≡_}
 use Prim.Native.Nat.{_^_, _≤_}
 use native.Mathlib.Omega.{arith}
 use borrow.Author.Needs.{needs}
@@ -9,10 +9,10 @@ use mir.Syntax.{w64}
 use mir.Val.{SFits}
 use mir.ValLaws.{toZ-ofZ}
 use Rattle.meaning.specs.Products.{joined, turnedBy}
-use Rattle.products.specs.Worked.{worked}
-use Rattle.products.proofs.Laws.{abs-joined, abs-turned}
-use Rattle.products.proofs.row_product.Statement.{statement}
-use Rattle.products.proofs.row_product.Tie as tie
+use Rattle.row_product.specs.Worked.{worked}
+use Rattle.row_product.proofs.Laws.{abs-joined, abs-turned}
+use Rattle.row_product.proofs.row_product.Statement.{statement}
+use Rattle.row_product.proofs.row_product.Tie as tie
 
 fit-n : (c : tie.After-join) → SFits w64 (c .join .result)
 fit-n c = search needs
