@@ -68,9 +68,11 @@ returns-3 c =
     let w = c .before in
     let e = w .before .before in
     let s = e .before .before .before .before .before in
+    let done =
     accepted-done _ _ _ _
     (past (e .before) ∙ passes no.Buffer (room (length (s .args .ts .now)) (length (s .args .out .now))) [] (rw (le-leb _ _ (e .if1 .left))))
-    (rw (toZ-ofZ w32 _ (s .fits .x)) at (w .work .ensures))
+    (rw (toZ-ofZ w32 _ (s .fits .x)) at (w .work .ensures)) in
+    record { answers = done .answers; writes = done .writes }
 
 pub multiply-spec : {M : Type 1} → statement M
 multiply-spec =
