@@ -2,7 +2,7 @@
 // ascending, the u index at most the v index.
 use meaning::Row;
 ghost use mathlib.Core.Path.{_≡_};
-ghost use Prim.Native.Nat.{_*_, _^_, _≤_, _<_, min};
+ghost use Prim.Native.Nat.{_≤_, _<_, min};
 ghost use lib.ListN.{take};
 ghost use Rattle.meaning.specs.Operation.{size};
 ghost use Rattle.meaning.specs.Generator.{rowFor};
@@ -23,28 +23,17 @@ pub struct Pair {
     pub v: u32,
 }
 
-// 2^l × u, which 51 bits hold.
-fn shifted(u: u32, l: u32) -> u64
-    requires { ⌜ l ≤ 19 ⌝ }
-    ensures { λ r. ⌜ (r ≡ 2 ^ l * u) × (r < 2 ^ 51) ⌝ }
-{
-    (u as u64) << l
-}
-
 // |n|
 fn size_of(u: u32, v: u32, l1: u32, l2: u32, s: u32) -> u64
-    requires { ⌜ (l1 ≤ 19) × (l2 ≤ 19) ⌝ }
+    requires { ⌜ (l1 ≤ 30) × (l2 ≤ 30) ⌝ }
     ensures { λ r. ⌜ r ≡ size u v l1 l2 s ⌝ }
 {
-    let a = shifted(u, l1);
-    let b = shifted(v, l2);
+    let a = shifts::shifted(u, l1);
+    let b = shifts::shifted(v, l2);
     if s == 0 {
         return a + b;
     }
-    if a < b {
-        return b - a;
-    }
-    a - b
+    shifts::apart(a, b)
 }
 
 // The row of one choice, if that makes c.

@@ -1,15 +1,15 @@
 // The generator: while wanted constants remain, a turn of the rule.
-use constants::Wanted;
 use meaning::Answer;
 use meaning::Drawn;
 use meaning::ROW_LENGTH;
 use meaning::Refusal;
 use ready::Ready;
+use wanted::Wanted;
 ghost use mathlib.Core.Path.{_≡_};
 ghost use mathlib.Core.List.{[]};
 ghost use Prim.Native.Nat.{_+_, _*_, _/_, _≤_, _<_};
 ghost use lib.ListN.{length};
-ghost use Rattle.constants.specs.Held.{kept};
+ghost use Rattle.wanted.specs.Held.{kept};
 ghost use Rattle.meaning.specs.declared.Answer.the-variants.{Accepted};
 ghost use Rattle.meaning.specs.Basics.{over};
 ghost use Rattle.meaning.specs.Limits.{limit};
@@ -40,7 +40,7 @@ fn draw(map: &mut [u8], top: u32, out: &mut [u32], w: Wanted) -> Ready
     let mut set = start(map, top);
     let mut k = 0;
     while k < w.count {
-        set = rule::turn(map, top, set, out, rule::left(set, w));
+        set = rule::turn(map, top, set, out, remaining::left(set, w));
         k += 1;
     }
     set
@@ -54,7 +54,7 @@ fn rows_by(map: &mut [u8], b: u32, ts: &[i32], out: &mut [u32]) -> Drawn
         (now (out .entry)) (now (out .exit))
         ⌝ }
 {
-    let set = draw(map, b + 1, out, constants::wanted_of(ts));
+    let set = draw(map, b + 1, out, wanted::wanted_of(ts));
     Drawn::Rows((set.count - 1) as u32)
 }
 

@@ -19,7 +19,7 @@ fn valid_rows(b: u32, n: usize, words: &[u32]) -> Answer
 {
     let mut i = 0;
     while i < n {
-        if !rows::row_fits(b, words, i) {
+        if !valid_row::row_fits(b, words, i) {
             return Answer::Refused(Refusal::Row((i + 1) as u32));
         }
         i += 1;

@@ -36,7 +36,7 @@ fn csd_sum(ts: &[i32]) -> u32
     requires { ⌜ length (now ts) ≤ 16 ⌝ }
     ensures { λ r. ⌜ r ≡ csdSum (wanted (now (ts .entry))) ⌝ }
 {
-    let w = constants::wanted_of(ts);
+    let w = wanted::wanted_of(ts);
     let mut sum: u32 = 0;
     let mut i = 0;
     while i < w.count {

@@ -2,9 +2,8 @@
 use meaning::Operated;
 ghost use mathlib.Core.Path.{_≡_};
 ghost use mathlib.Core.List.{[], _∷_};
-ghost use Prim.Native.Nat.{_+_, _*_, _^_, _<_, _≤_, min};
+ghost use Prim.Native.Nat.{_+_, _<_, _≤_, min};
 ghost use lib.Dec.{leb, eqb};
-ghost use lib.IntN.{pos};
 ghost use Rattle.meaning.specs.Basics.{all};
 ghost use Rattle.meaning.specs.Operation.{whole, operated, operatedUnder};
 ghost use Rattle.operation.specs.Code.{outcomeOf};
@@ -28,21 +27,13 @@ fn shifts_fit(limit: u32, l1: u32, l2: u32, s: u32) -> bool
     l2 == 0
 }
 
-// 2^l × u, which 62 bits hold.
-fn shifted(u: u32, l: u32) -> i64
-    requires { ⌜ l ≤ 30 ⌝ }
-    ensures { λ r. ⌜ r ≡ pos (2 ^ l * u) ⌝ }
-{
-    ((u as u64) << l) as i64
-}
-
 // n = 2^l1 × u + (-1)^s × 2^l2 × v
 fn whole_of(u: u32, v: u32, l1: u32, l2: u32, s: u32) -> i64
     requires { ⌜ (l1 ≤ 30) × (l2 ≤ 30) ⌝ }
     ensures { λ r. ⌜ r ≡ whole u v l1 l2 s ⌝ }
 {
-    let a = shifted(u, l1);
-    let b = shifted(v, l2);
+    let a = shifts::shifted(u, l1) as i64;
+    let b = shifts::shifted(v, l2) as i64;
     if s == 0 {
         return a + b;
     }

@@ -1,16 +1,15 @@
 -- What the code of the products needs of its steps. Assumes nothing.
 use mathlib.Core.Path.{_≡_, refl, sym, ap, subst⁻¹}
 use mathlib.Core.List.{List, [], _∷_, map}
-use mathlib.Core.Bool.{Bool, true, false}
-use Prim.Native.Nat.{ℕ, zero, suc, _+_, _*_, _^_, _≤_, _<_}
-use lib.Dec.{T, ltb}
-use lib.IntN.{ℤ, pos, natAbs, _-ℤ_, _*ℤ_}
+use mathlib.Core.Bool.{Bool}
+use Prim.Native.Nat.{ℕ, zero, suc, _+_, _*_, _≤_, _<_}
+use lib.Dec.{T}
+use lib.IntN.{ℤ, pos}
 use lib.ListN.{length, getD, take, set}
 use lib.Seq.{take-suc-set}
 use native.Mathlib.Nat.{le-of-suc-le-suc, not-suc-le-zero}
 use native.Mathlib.Numerals.{add-one}
 use native.Mathlib.Omega.{arith}
-use Rattle.numbers.proofs.Integers.{abs-add, abs-sub, abs-mul, abs-neg}
 use Rattle.meaning.specs.declared.Row.{Row}
 use Rattle.meaning.specs.Basics.{every}
 use Rattle.laws.proofs.Tests.{both-of, in-every}
@@ -19,29 +18,10 @@ use Rattle.meaning.specs.declared.Answer.the-variants.{Accepted}
 use Rattle.meaning.specs.Limits.{limit}
 use Rattle.meaning.specs.Refusals.{checked}
 use Rattle.meaning.specs.Graph.{rowLength, rowAt, rows, ready, served?}
-use Rattle.meaning.specs.Products.{turned?, joined, turnedBy, rowProduct, productsFrom, products, targetProduct, targetProducts}
+use Rattle.meaning.specs.Products.{rowProduct, productsFrom, products, targetProduct, targetProducts}
 use Rattle.laws.proofs.Products.{products-more}
-use Rattle.products.specs.Worked.{worked, Within, Next, Graph, targetFrom}
-
--- as code meets a sign that is not 0
-pub joined-minus : (p q : ℤ) (l1 l2 s : ℕ) → (s ≡ 0 → ⊥) → pos (2 ^ l1) *ℤ p -ℤ pos (2 ^ l2) *ℤ q ≡ joined p q l1 l2 s
-joined-minus p q l1 l2 zero h = absurd (h refl)
-joined-minus p q l1 l2 (suc s) h = refl
-
-pub turned-less : (u v l1 l2 s : ℕ) → (s ≡ 0 → ⊥) → ltb (2 ^ l1 * u) (2 ^ l2 * v) ≡ turned? u v l1 l2 s
-turned-less u v l1 l2 zero h = absurd (h refl)
-turned-less u v l1 l2 (suc s) h = refl
-
--- how large a step's result is
-pub abs-joined : (p q : ℤ) (l1 l2 s : ℕ) → natAbs (joined p q l1 l2 s) ≤ 2 ^ l1 * natAbs p + 2 ^ l2 * natAbs q
-abs-joined p q l1 l2 zero =
-    omega (arith, abs-add (pos (2 ^ l1) *ℤ p) (pos (2 ^ l2) *ℤ q), abs-mul (pos (2 ^ l1)) p, abs-mul (pos (2 ^ l2)) q)
-abs-joined p q l1 l2 (suc s) =
-    omega (arith, abs-sub (pos (2 ^ l1) *ℤ p) (pos (2 ^ l2) *ℤ q), abs-mul (pos (2 ^ l1)) p, abs-mul (pos (2 ^ l2)) q)
-
-pub abs-turned : (t : Bool) (z : ℤ) → natAbs (turnedBy t z) ≡ natAbs z
-abs-turned false z = refl
-abs-turned true z = abs-neg z
+use Rattle.row_product.specs.Worked.{worked, Within}
+use Rattle.products.specs.Worked.{Next, Graph, targetFrom}
 
 -- ---- a row of a slice
 

@@ -2,90 +2,17 @@
 use meaning::Answer;
 use meaning::ROW_LENGTH;
 use meaning::Refusal;
-use meaning::Row;
 ghost use mathlib.Core.Path.{_≡_};
 ghost use mathlib.Core.List.{map};
-ghost use Prim.Native.Nat.{_+_, _*_, _^_, _≤_};
+ghost use Prim.Native.Nat.{_+_, _*_, _≤_};
 ghost use lib.Dec.{T};
-ghost use lib.IntN.{pos, natAbs, _*ℤ_};
 ghost use lib.ListN.{length, take};
-ghost use lib.Signed.{quotZ};
 ghost use Rattle.meaning.specs.declared.Answer.the-variants.{Accepted};
 ghost use Rattle.meaning.specs.Basics.{every, over};
 ghost use Rattle.meaning.specs.Graph.{rowLength, rowAt, rows, ready, served?};
-ghost use Rattle.meaning.specs.Products.{turned?, joined, turnedBy, rowProduct, products, targetProducts};
+ghost use Rattle.meaning.specs.Products.{rowProduct, products, targetProducts};
 ghost use Rattle.meaning.specs.Refusals.{Done, checked, multiplied, productsWritten};
-ghost use Rattle.products.specs.Worked.{worked, Within, Next, Graph, Made, targetFrom};
-
-// 2^l
-fn power(l: u32) -> i64
-    requires { ⌜ l ≤ 31 ⌝ }
-    ensures { λ r. ⌜ r ≡ pos (2 ^ l) ⌝ }
-{
-    (1u64 << l) as i64
-}
-
-// 2^l × p
-fn shifted(p: i64, l: u32) -> i64
-    requires { ⌜ (l ≤ 31) × (2 ^ l * natAbs p ≤ 2 ^ 62) ⌝ }
-    ensures { λ r. ⌜ r ≡ pos (2 ^ l) *ℤ p ⌝ }
-{
-    power(l) * p
-}
-
-// 2^l1 × p + (-1)^s × 2^l2 × q
-fn join(p: i64, q: i64, x: Row) -> i64
-    requires { ⌜ Within p q x ⌝ }
-    ensures { λ r. ⌜ r ≡ joined p q (x .l1) (x .l2) (x .s) ⌝ }
-{
-    let a = shifted(p, x.l1);
-    let b = shifted(q, x.l2);
-    if x.s == 0 {
-        return a + b;
-    }
-    a - b
-}
-
-// n is negative: n is the row's own, and the data's sign has no part in it.
-fn is_turned(u: u32, v: u32, x: Row) -> bool
-    requires { ⌜ (x .l1 ≤ 30) × (x .l2 ≤ 30) ⌝ }
-    ensures { λ r. ⌜ r ≡ turned? u v (x .l1) (x .l2) (x .s) ⌝ }
-{
-    if x.s == 0 {
-        return false;
-    }
-    (u as u64) << x.l1 < (v as u64) << x.l2
-}
-
-// The difference negated where n is negative.
-fn turn(negative: bool, z: i64) -> i64
-    requires { ⌜ natAbs z ≤ 2 ^ 62 ⌝ }
-    ensures { λ r. ⌜ r ≡ turnedBy negative z ⌝ }
-{
-    if negative {
-        return -z;
-    }
-    z
-}
-
-// z / 2^r, rounded towards 0; a row's is exact.
-fn divided(z: i64, r: u32) -> i64
-    requires { ⌜ (r ≤ 31) × (natAbs z ≤ 2 ^ 62) ⌝ }
-    ensures { λ q. ⌜ q ≡ quotZ z (pos (2 ^ r)) ⌝ }
-{
-    z / power(r)
-}
-
-// A row's product, from its operands' values and products.
-fn row_product(u: u32, v: u32, p: i64, q: i64, x: Row) -> i64
-    requires { ⌜ Within p q x ⌝ }
-    ensures { λ r. ⌜ r ≡ worked u v p q x ⌝ }
-{
-    let n = join(p, q, x);
-    let negative = is_turned(u, v, x);
-    let turned = turn(negative, n);
-    divided(turned, x.r)
-}
+ghost use Rattle.products.specs.Worked.{Next, Graph, Made, targetFrom};
 
 // The product of the row after i rows, from the products of the indices before it.
 fn next_product(words: &[u32], i: usize, before: &[i64]) -> i64
@@ -99,7 +26,7 @@ fn next_product(words: &[u32], i: usize, before: &[i64]) -> i64
     let v = rows::value_at(words, i, second);
     let p = before[first];
     let q = before[second];
-    row_product(u, v, p, q, x)
+    row_product::row_product(u, v, p, q, x)
 }
 
 // The products by index; the input's is x.
@@ -125,7 +52,7 @@ fn target_product(n: usize, words: &[u32], made: &[i64], t: i32) -> i64
     let parts = constants::take_apart(t);
     let index = rows::lowest(n, words, parts.odd);
     let p = made[index];
-    (parts.sign as i64) * shifted(p, parts.shift)
+    (parts.sign as i64) * row_product::shifted(p, parts.shift)
 }
 
 // The targets' products, from the front of a lent slice.

@@ -162,13 +162,6 @@ pub with-more : (L v : ℕ) (xs : List ℕ) (i : ℕ) {a b c : List ℕ} → i <
     → Adds a b (λ c. with? L v (take i xs) c) → Adds b c (λ c. oneOp? L v (getD xs i 0) c) → Adds a c (λ c. with? L v (take (i + 1) xs) c)
 with-more L v xs i h p q = adds-then p q (λ k. with-suc L v xs i k h)
 
--- a value below 2 ^ L is below 2 ^ 19
-pub small : (L n : ℕ) → L ≤ 19 → n < 2 ^ L → n < 2 ^ 19
-small L n h l = let m : 2 ^ L ≤ 2 ^ 19 = pow-mono h in omega arith
-
-pub power-small : (l : ℕ) → l ≤ 19 → 2 ^ l ≤ 2 ^ 19
-power-small l h = pow-mono {i = l} {j = 19} h
-
 -- ---- one ready value more
 
 pub reach-more : (L : ℕ) (vals : List ℕ) (v : ℕ) {a b c : List ℕ} → Holds a (λ c. reach? L vals c)

@@ -1,46 +1,11 @@
 // What one operation reaches, kept as a map of bytes, one for each odd number.
 ghost use mathlib.Core.Path.{_≡_};
 ghost use mathlib.Core.List.{[], _∷_, _++_};
-ghost use Prim.Native.Nat.{_+_, _*_, _/_, _^_, _≤_, _<_};
+ghost use Prim.Native.Nat.{_+_, _/_, _<_};
 ghost use lib.ListN.{length, take};
-ghost use Rattle.meaning.specs.Basics.{gap, zeros};
 ghost use Rattle.meaning.specs.Distance.{oneOp?, reach?};
 ghost use Rattle.reach.specs.Sides.{hits?, sideTo?, with?};
 ghost use Rattle.reach.specs.Marks.{Holds, Adds, marked, Wide, Odd, Ready, State};
-
-// 2^l
-pub fn power(l: u32) -> u64
-    requires { ⌜ l ≤ 19 ⌝ }
-    ensures { λ r. ⌜ r ≡ 2 ^ l ⌝ }
-{
-    1u64 << l
-}
-
-// 2^l v
-pub fn shifted(v: u64, l: u32) -> u64
-    requires { ⌜ (v < 2 ^ 19) × (l ≤ 19) ⌝ }
-    ensures { λ r. ⌜ r ≡ 2 ^ l * v ⌝ }
-{
-    v << l
-}
-
-// |a - b|
-pub fn apart(a: u64, b: u64) -> u64
-    ensures { λ r. ⌜ r ≡ gap a b ⌝ }
-{
-    if a < b {
-        return b - a;
-    }
-    a - b
-}
-
-// n without its trailing zeros
-pub fn odd_part(n: u64) -> u64
-    requires { ⌜ 0 < n ⌝ }
-    ensures { λ r. ⌜ r ≡ n / 2 ^ zeros n ⌝ }
-{
-    n >> u64::trailing_zeros(n)
-}
 
 // n without its trailing zeros is marked, if that is below 2^top.
 fn mark(map: &mut [u8], top: u32, n: u64)
@@ -50,8 +15,8 @@ fn mark(map: &mut [u8], top: u32, n: u64)
     if n == 0 {
         return;
     }
-    let m = odd_part(n);
-    if m < power(top) {
+    let m = shifts::odd_part(n);
+    if m < shifts::power(top) {
         let at = (m / 2) as usize;
         map[at] = 1;
     }
@@ -64,16 +29,15 @@ fn side(map: &mut [u8], top: u32, u: u32, v: u32)
     ensures { λ _. ⌜ Adds (now (map .entry)) (now (map .exit)) (λ c. sideTo? top u v (top + 1) c) ⌝ }
 {
     let a = u as u64;
-    let b = v as u64;
-    let far = a + power(top);
+    let far = a + shifts::power(top);
     let mut l: u32 = 0;
     while l <= top {
-        let w = shifted(b, l);
+        let w = shifts::shifted(v, l);
         if w >= far {
             return;
         }
         mark(map, top, a + w);
-        mark(map, top, apart(a, w));
+        mark(map, top, shifts::apart(a, w));
         l += 1;
     }
 }

@@ -1,16 +1,11 @@
-// A graph's rows in a lent slice of words: one row read and written, the value of an index, the lowest index of a value, and a row's validity.
-use meaning::Operated;
+// A graph's rows in a lent slice of words: one row read and written, the value of an index, and the lowest index of a value.
 use meaning::ROW_LENGTH;
 use meaning::Row;
 ghost use mathlib.Core.Path.{_≡_};
-ghost use mathlib.Core.Bool.{_&&_};
 ghost use Prim.Native.Nat.{_+_, _*_, _≤_};
-ghost use lib.Dec.{leb};
 ghost use lib.ListN.{length, getD};
 ghost use Rattle.meaning.specs.Basics.{after, indexFrom};
-ghost use Rattle.meaning.specs.Limits.{limit};
-ghost use Rattle.meaning.specs.Operation.{valid?};
-ghost use Rattle.meaning.specs.Graph.{rowLength, words, rowAt, rows, ready, rowFits};
+ghost use Rattle.meaning.specs.Graph.{rowLength, words, rowAt, rows, ready};
 ghost use Rattle.meaning.specs.Refusals.{mostRows};
 
 // The row whose words begin at a place.
@@ -53,41 +48,6 @@ pub fn lowest(n: usize, words: &[u32], value: u32) -> usize
         index += 1;
     }
     0
-}
-
-// A row's shifts, sign, r and value agree with a valid operation on u and v.
-fn agrees(b: u32, u: u32, v: u32, x: Row) -> bool
-    ensures { λ r. ⌜ r ≡ ((leb 2 b && leb b 16) && valid? (limit b) u v (x .l1) (x .l2) (x .s) (x .r) (x .value)) ⌝ }
-{
-    let made = operation::operate(b, u, v, x.l1, x.l2, x.s);
-    let Operated::Made { n: _, r, value } = made else {
-        return false;
-    };
-    if r != x.r {
-        return false;
-    }
-    value == x.value
-}
-
-// The row after i rows is within the slice and valid, under the bit limit b.
-pub fn row_fits(b: u32, words: &[u32], i: usize) -> bool
-    ensures { λ r. ⌜ r ≡ rowFits b (now (words .entry)) i ⌝ }
-{
-    if words.len() / ROW_LENGTH <= i {
-        return false;
-    }
-    let x = row_at(words, ROW_LENGTH * i);
-    let first = x.u as usize;
-    let second = x.v as usize;
-    if i < first {
-        return false;
-    }
-    if i < second {
-        return false;
-    }
-    let u = value_at(words, i, first);
-    let v = value_at(words, i, second);
-    agrees(b, u, v, x)
 }
 
 // The row's words, written from a place on.

@@ -1,27 +1,23 @@
--- A turn of the rule as the code takes it: the constants kept, one after the other; which of them are left, which is the first that one operation
--- reaches, and which has a choice; and the rows of a turn by those of its steps. Assumes nothing.
+-- A turn of the rule as the code takes it: which of the constants is the first that one operation reaches, and which has a choice; and the rows of
+-- a turn by those of its steps. Assumes nothing.
 use mathlib.Core.Path.{_≡_, refl, sym, ap, _∙_, subst, subst⁻¹}
 use mathlib.Core.Bool.{Bool, true, false, cond}
-use mathlib.Core.List.{List, [], _∷_, _++_, List·Memᴰ, List·Memᴰ·head, List·Memᴰ·tail, append-nil, append-assoc}
+use mathlib.Core.List.{List, [], _∷_, _++_, List·Memᴰ, List·Memᴰ·head, List·Memᴰ·tail}
 use mathlib.Core.Option.{Option, some, none}
 use Prim.Native.Nat.{ℕ, _+_, _-_, _/_, _^_, _≤_, _<_}
-use native.Mathlib.Numerals.{add-one}
 use native.Mathlib.Omega.{arith}
 use lib.Dec.{T}
-use lib.ListN.{length, getD, set, take, drop, replicate, length-set, length-take, length-append}
+use lib.ListN.{length, getD, take, length-append}
 use lib.Pow.{pow-mono}
-use lib.Seq.{drop-cons, length-take-le, getD-take, take-suc-set}
 use Rattle.meaning.specs.declared.Row.{Row}
-use Rattle.meaning.specs.Basics.{has, firstSome, andThen}
+use Rattle.meaning.specs.Basics.{firstSome, andThen}
 use Rattle.meaning.specs.Digits.{prefixes}
 use Rattle.meaning.specs.Graph.{values}
 use Rattle.meaning.specs.Distance.{reach?}
-use Rattle.meaning.specs.Generator.{rowFor, remaining, ruleA, serve, ruleB, ruleC, orRows, turn}
+use Rattle.meaning.specs.Generator.{rowFor, ruleA, serve, ruleB, ruleC, orRows, turn}
 use Rattle.laws.proofs.Tests.{true-of, false-of}
-use Rattle.laws.proofs.Choices.{got, found, first-from, first-got, getD-in, row-from, got-row}
-use Rattle.laws.proofs.Steps.{near as reached, rule-a-is, remaining-ready, remaining-left, remaining-end}
-use Rattle.constants.specs.declared.Wanted.{Wanted}
-use Rattle.constants.specs.Held.{kept}
+use Rattle.laws.proofs.Choices.{got, found, first-from, first-got, row-from, got-row}
+use Rattle.laws.proofs.Steps.{near as reached, rule-a-is}
 use Rattle.draft.specs.Growth.{atMostOne}
 use Rattle.serving.specs.declared.Choice.{Choice}
 use Rattle.serving.specs.declared.Choice.the-variants.{At, Nothing}
@@ -31,70 +27,7 @@ use Rattle.reach.proofs.Marks.{reached-is}
 use Rattle.serving.proofs.RuleB.{Served, b-empty, b-nothing, b-at, at-served}
 use Rattle.rule.specs.declared.Near.{Near}
 use Rattle.rule.specs.declared.Near.the-variants as near
-use Rattle.rule.specs.Rule.{Lists, AllServable, firstMarked, Serves, NoneNear}
-
--- ---- the constants kept, one after the other
-
-pub kept-nothing : (w : Wanted) → w .count ≡ 0 → kept w ≡ []
-kept-nothing w e = ap (λ (n : ℕ). take n (w .values)) e
-
-module _ (w : Wanted) (i : ℕ) where
-  pub kept-at : i < w .count → getD (kept w) i 0 ≡ getD (w .values) i 0
-  kept-at h = getD-take (w .count) (w .values) i 0 h
-
-  pub kept-end : w .count ≤ i → length (kept w) ≤ i
-  kept-end h = omega (arith, length-take (w .count) (w .values))
-
-module _ (w : Wanted) (i : ℕ) (places : length (w .values) ≡ 16) (bound : w .count ≤ 16) (h : i < w .count) where
-  pub kept-inside : i < length (kept w)
-  kept-inside = omega (arith, length-take-le (w .count) (w .values) (rw places bound))
-
-  pub kept-in : List·Memᴰ (getD (w .values) i 0) (kept w)
-  kept-in = rw (kept-at w i h) at (getD-in (kept w) i 0 kept-inside)
-
-  pub kept-next : drop i (kept w) ≡ getD (w .values) i 0 ∷ drop (i + 1) (kept w)
-  kept-next = rw (drop-cons (kept w) i 0 kept-inside, kept-at w i h, add-one i)
-
--- ---- those that are left
-
--- the constants before place i are passed, and r holds those of them that are not ready
-pub record Sifted (vals cs : List ℕ) (r : Wanted) (i : ℕ) : Type 0 where
-  pub places : length (r .values) ≡ 16
-  pub bound : r .count ≤ i
-  pub list : kept r ++ remaining vals (drop i cs) ≡ remaining vals cs
-
-module _ (vals cs : List ℕ) where
-  pub sift-start : Sifted vals cs (record { values = replicate 16 0; count = 0 }) 0
-  sift-start = record { places = refl; bound = omega arith; list = refl }
-
-  module _ (r : Wanted) (i : ℕ) (s : Sifted vals cs r i) where
-    pub sift-ready : (c : ℕ) → i < length cs → getD cs i 0 ≡ c → has vals c ≡ true → Sifted vals cs r (i + 1)
-    sift-ready c h g e =
-        record { places = s .places; bound = omega (arith, s .bound); list = rw (remaining-ready vals cs i h (rw g e)) at (s .list) }
-
-    pub sift-left : (c : ℕ) → i < length cs → i < 16 → getD cs i 0 ≡ c → has vals c ≡ false
-        → Sifted vals cs (record { values = set (r .values) (r .count) c; count = r .count + 1 }) (i + 1)
-    sift-left c h b g e =
-        let l : r .count < length (r .values) = omega (arith, s .places, s .bound) in
-        let rest : List ℕ = remaining vals (drop (i + 1) cs) in
-        record {
-          places = length-set (r .values) (r .count) c ∙ s .places;
-          bound = omega (arith, s .bound);
-          list =
-              ap (λ (n : ℕ). take n (set (r .values) (r .count) c) ++ rest) (add-one (r .count))
-              ∙ ap (λ (xs : List ℕ). xs ++ rest) (take-suc-set (r .values) (r .count) c l)
-              ∙ append-assoc (kept r) (c ∷ []) rest
-              ∙ ap (λ (xs : List ℕ). kept r ++ xs) (sym (rw g at (remaining-left vals cs i h (rw g e))))
-              ∙ s .list;
-        }
-
-    pub sift-end : length cs ≤ i → i ≤ 16 → Lists r (remaining vals cs)
-    sift-end h b =
-        record {
-          places = s .places;
-          bound = omega (arith, s .bound);
-          list = sym (append-nil (kept r)) ∙ (rw (remaining-end vals cs i h) at (s .list));
-        }
+use Rattle.rule.specs.Rule.{AllServable, firstMarked, Serves, NoneNear}
 
 -- ---- the first that the map has
 

@@ -3,24 +3,16 @@ use mathlib.Core.Path.{_≡_}
 use mathlib.Core.Bool.{false, cond}
 use mathlib.Core.List.{List, [], _∷_, _++_, List·Memᴰ}
 use mathlib.Core.Option.{some, none}
-use Prim.Native.Nat.{ℕ, _≤_}
+use Prim.Native.Nat.{ℕ}
 use lib.ListN.{length}
 use Rattle.meaning.specs.Distance.{reach?}
 use Rattle.meaning.specs.Generator.{rowFor, ruleB}
-use Rattle.constants.specs.declared.Wanted.{Wanted}
-use Rattle.constants.specs.Held.{kept}
 use Rattle.reach.specs.Marks.{marked, Odd}
 use Rattle.draft.specs.Growth.{Servable, atMostOne}
 use Rattle.rule.specs.declared.Near.{Near}
 use Rattle.rule.specs.declared.Near.the-variants as near
 use Rattle.rule.specs.declared.Chosen.{Chosen}
 use Rattle.rule.specs.declared.Chosen.the-variants as chosen
-
--- the array holds as many constants as are counted
-pub record Lists (w : Wanted) (cs : List ℕ) : Type 0 where
-  pub places : length (w .values) ≡ 16
-  pub bound : w .count ≤ 16
-  pub list : kept w ≡ cs
 
 abbrev pub AllServable : ℕ → List ℕ → Type 0
 AllServable L cs = (c : ℕ) → List·Memᴰ c cs → Servable L c

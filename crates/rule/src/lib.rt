@@ -1,17 +1,17 @@
 // One turn of the generator's rule: a row by step A, two by step B, or the prefixes' rows by step C.
-use constants::Wanted;
 use ready::Ready;
 use serving::Choice;
+use wanted::Wanted;
 ghost use mathlib.Core.Path.{_≡_};
 ghost use mathlib.Core.List.{List·Memᴰ};
-ghost use Prim.Native.Nat.{_+_, _/_, _≤_, _<_};
+ghost use Prim.Native.Nat.{_/_, _≤_, _<_};
 ghost use lib.ListN.{length};
-ghost use Rattle.constants.specs.Held.{kept};
-ghost use Rattle.meaning.specs.Generator.{remaining, turn as Generator·turn};
+ghost use Rattle.wanted.specs.Held.{kept};
+ghost use Rattle.meaning.specs.Generator.{turn as Generator·turn};
 ghost use Rattle.ready.specs.Listed.{listed};
 ghost use Rattle.reach.specs.Marks.{State};
 ghost use Rattle.draft.specs.Growth.{Open, Grown};
-ghost use Rattle.rule.specs.Rule.{Lists, AllServable, firstMarked, Picked, NoneNear};
+ghost use Rattle.rule.specs.Rule.{AllServable, firstMarked, Picked, NoneNear};
 
 // The smallest constant that one operation reaches.
 pub enum Near {
@@ -23,27 +23,6 @@ pub enum Near {
 pub enum Chosen {
     By { c: u32, s: u32 },
     Nothing,
-}
-
-// The wanted constants that are not ready.
-pub fn left(set: Ready, w: Wanted) -> Wanted
-    requires { ⌜ w .count ≤ 16 ⌝ }
-    ensures { λ r. ⌜ Lists r (remaining (listed set) (kept w)) ⌝ }
-{
-    let mut r = Wanted {
-        values: [0u32; 16],
-        count: 0,
-    };
-    let mut i = 0;
-    while i < w.count {
-        let c = w.values[i];
-        if !set.has(c) {
-            r.values[r.count] = c;
-            r.count += 1;
-        }
-        i += 1;
-    }
-    r
 }
 
 // Step A's constant.

@@ -45,7 +45,7 @@ fn look(map: &[u8], top: u32, n: u64, low: u32, best: u32) -> u32
     if n == 0 {
         return best;
     }
-    lower(map, reach::odd_part(n), low, best)
+    lower(map, shifts::odd_part(n), low, best)
 }
 
 // The same for all results of operations on u as it is and v shifted, up to the shift from which on nothing comes.
@@ -54,17 +54,16 @@ fn look_side(map: &[u8], top: u32, u: u32, v: u32, low: u32, best: u32) -> u32
     ensures { λ r. ⌜ Lowers (now (map .entry)) low (λ s. sideTo? top u v (top + 1) s) best r ⌝ }
 {
     let a = u as u64;
-    let b = v as u64;
-    let far = a + reach::power(top);
+    let far = a + shifts::power(top);
     let mut least = best;
     let mut l: u32 = 0;
     while l <= top {
-        let w = reach::shifted(b, l);
+        let w = shifts::shifted(v, l);
         if w >= far {
             return least;
         }
         least = look(map, top, a + w, low, least);
-        least = look(map, top, reach::apart(a, w), low, least);
+        least = look(map, top, shifts::apart(a, w), low, least);
         l += 1;
     }
     least
@@ -113,7 +112,7 @@ fn look_twice(map: &[u8], top: u32, c: u32, low: u32, best: u32) -> u32
     let mut least = best;
     let mut l: u32 = 0;
     while l < top {
-        let p = reach::power(l + 1);
+        let p = shifts::power(l + 1);
         least = look_factor(map, d, p - 1, low, least);
         least = look_factor(map, d, p + 1, low, least);
         l += 1;
@@ -138,7 +137,7 @@ fn last(top: u32, limit: u32) -> u32
     requires { ⌜ (1 ≤ top) × (top ≤ 19) ⌝ }
     ensures { λ r. ⌜ r ≡ min (2 ^ (top - 1)) (limit + 1) ⌝ }
 {
-    let whole = reach::power(top - 1);
+    let whole = shifts::power(top - 1);
     let most = limit as u64 + 1;
     if most < whole {
         return most as u32;
@@ -168,6 +167,6 @@ pub fn served(map: &[u8], top: u32, ready: &[u32], n: usize, c: u32) -> bool
     requires { ⌜ State top (now map) (now ready) n × Odd top c × (reach? top (take n (now ready)) c ≡ false) ⌝ }
     ensures { λ r. ⌜ r ≡ any (serves? top (take n (now (ready .entry))) c) (1 ∷ candidates top) ⌝ }
 {
-    let bound = reach::power(top) as u32;
+    let bound = shifts::power(top) as u32;
     least_partner(map, top, ready, n, c, 1, bound) < bound
 }

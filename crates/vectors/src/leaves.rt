@@ -67,7 +67,7 @@ fn fits(b: u32, i: usize, words: &[u32]) -> bool {
     if i == 0 {
         return false;
     }
-    rows::row_fits(b, words, i - 1)
+    valid_row::row_fits(b, words, i - 1)
 }
 
 // The words are b, the row's number, which counts from 1, and the rows' words. The call counts the rows before it.

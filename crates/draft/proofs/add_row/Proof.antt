@@ -1,8 +1,14 @@
 -- `add_row` meets its contract. Assumes nothing.
 use borrow.Author.Needs.{needs}
+use Rattle.ready.specs.Listed.{Added}
 use Rattle.draft.proofs.Laws.{grown-one}
 use Rattle.draft.proofs.add_row.Statement.{statement}
 use Rattle.draft.proofs.add_row.Tie as tie
+
+-- the set that is returned
+added : (c : tie.After-with) → let a = c .before .before .before .before .before .before .before .before .before .before .before .before .before .before .args in
+    Added (a .t3) (a .x .value) (c .with .result)
+added c = c .with .ensures
 
 sub-put-row : tie.Need-sub-put-row
 sub-put-row c = search needs
@@ -30,7 +36,7 @@ returns c =
     let add = c .before .before .before in
     let put = add .before .before .before .before .before .before .before in
     let first = put .before .before .before .before in
-    grown-one (first .args .x) (first .pre .0) (first .pre .1) (add .add .ensures .0) (add .add .ensures .1) (c .with .ensures) (put .put-row .ensures)
+    grown-one (first .args .x) (first .pre .0) (first .pre .1) (add .add .ensures .0) (add .add .ensures .1) (added c) (put .put-row .ensures)
 
 pub add-row-spec : {M : Type 1} → statement M
 add-row-spec =

@@ -1,4 +1,4 @@
--- `size_of` meets its contract: the sum, or the difference whichever way it is not negative. Assumes nothing.
+-- `size_of` meets its contract: the sum, or how far the two are apart. Assumes nothing.
 use mathlib.Core.Path.{_≡_}
 use Prim.Native.Nat.{suc, _-_}
 use native.Mathlib.Omega.{arith}
@@ -18,25 +18,14 @@ add-result c = search needs
 returns : tie.Need-returns
 returns c = rw (c .if1 .taken) (omega arith)
 
-sub-result : tie.Need-sub-result
-sub-result c = search needs
+apart-requires : tie.Need-apart-requires
+apart-requires c κs = search needs
 
 returns-2 : tie.Need-returns-2
 returns-2 c =
     let e : c .before .before .before .before .args .s ≡ suc (c .before .before .before .before .args .s - 1) = omega arith in rw e (omega arith)
 
-returns-3 : tie.Need-returns-3
-returns-3 c =
-    let e : c .before .before .before .before .args .s ≡ suc (c .before .before .before .before .args .s - 1) = omega arith in rw e (omega arith)
-
 pub size-of-spec : {M : Type 1} → statement M
 size-of-spec =
     tie.close
-    (tie.spec
-    shifted-requires
-    shifted-requires-2
-    add-result
-    returns
-    sub-result
-    returns-2
-    returns-3)
+    (tie.spec shifted-requires shifted-requires-2 add-result returns apart-requires returns-2)

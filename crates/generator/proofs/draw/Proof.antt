@@ -9,7 +9,7 @@ use lib.Seq.{length-take-le}
 use Rattle.meaning.specs.Generator.{remaining, turn}
 use Rattle.meaning.specs.Refusals.{mostRows}
 use Rattle.laws.proofs.Remaining.{remaining-in}
-use Rattle.constants.specs.Held.{kept}
+use Rattle.wanted.specs.Held.{kept}
 use Rattle.ready.specs.Listed.{listed}
 use Rattle.draft.specs.Growth.{Open, Grown}
 use Rattle.rule.specs.Rule.{AllServable}

@@ -1,7 +1,7 @@
 -- `rows_by` meets its contract: all rows of the rule and their count. Assumes nothing.
 use mathlib.Core.Path.{_≡_, ap, _∙_, subst⁻¹}
 use mathlib.Core.List.{List, []}
-use Prim.Native.Nat.{_≤_}
+use Prim.Native.Nat.{_-_, _≤_}
 use native.Mathlib.Omega.{arith}
 use borrow.Author.Needs.{needs}
 use lib.ListN.{length}
@@ -15,8 +15,8 @@ use Rattle.meaning.specs.Refusals.{mostRows}
 use Rattle.laws.proofs.Checked.{Admitted, admitted-of}
 use Rattle.laws.proofs.Wanted.{wanted-length}
 use Rattle.laws.proofs.Generated.{few-rows, drawn-accepts}
-use Rattle.constants.specs.Held.{kept}
-use Rattle.constants.proofs.Insertion.{held-list, held-count}
+use Rattle.wanted.specs.Held.{kept}
+use Rattle.wanted.proofs.Insertion.{held-list, held-count}
 use Rattle.rule.specs.Rule.{AllServable}
 use Rattle.generator.proofs.Answers.{all-servable, told-rows, its-turns}
 use Rattle.generator.proofs.rows_by.Statement.{statement}
@@ -73,9 +73,11 @@ returns c =
     let w = d .before in
     let st = w .before .before .before .before .before in
     let a = st .args in
-    told-rows (a .b) (a .ts .now) (length (a .out .now)) _ _ _ (drawn-accepts _ _ _ (st .pre .1) (st .pre .2))
+    let done =
+    told-rows (a .b) (a .ts .now) (length (a .out .now)) (d .draw .result .count - 1) _ _ (drawn-accepts _ _ _ (st .pre .1) (st .pre .2))
     (omega (arith, d .draw .ensures .0, ap length (its-rows w)))
-    (d .draw .ensures .1 ∙ ap (λ (xs : List Row). over (flat xs) (a .out .now)) (its-rows w))
+    (d .draw .ensures .1 ∙ ap (λ (xs : List Row). over (flat xs) (a .out .now)) (its-rows w)) in
+    record { answers = done .answers; writes = done .writes }
 
 pub rows-by-spec : {M : Type 1} → statement M
 rows-by-spec =

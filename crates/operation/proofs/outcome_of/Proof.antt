@@ -1,6 +1,6 @@
 -- `outcome_of` meets its contract: the machine's count of trailing zeros is r. Assumes nothing.
-use mathlib.Core.Path.{_≡_, _∙_, ap, sym}
-use Prim.Native.Nat.{ℕ, _*_, _/_, _%_, _^_, _<_, _≤_}
+use mathlib.Core.Path.{_≡_, _∙_, sym}
+use Prim.Native.Nat.{ℕ, _*_, _%_, _^_, _<_, _≤_}
 use native.Mathlib.Omega.{arith}
 use borrow.Author.Needs.{needs}
 use lib.Count.{trailingZeros}

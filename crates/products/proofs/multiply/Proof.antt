@@ -1,9 +1,8 @@
 -- `multiply` meets its contract: as check, then 4; the targets' products over the front. Assumes nothing.
-use mathlib.Core.Path.{_≡_, refl, sym, ap, _∙_}
-use mathlib.Core.Bool.{Bool, true, false}
-use mathlib.Core.List.{List, [], _∷_, _++_}
-use Prim.Native.Nat.{ℕ, _≤_}
-use native.Mathlib.Omega.{arith}
+use mathlib.Core.Path.{_≡_, refl, sym, _∙_}
+use mathlib.Core.Bool.{Bool}
+use mathlib.Core.List.{List, [], _∷_}
+use Prim.Native.Nat.{ℕ}
 use borrow.Author.Needs.{needs}
 use borrow.Author.Tests.{le-leb, lt-leb}
 use lib.Dec.{leb}
@@ -69,9 +68,11 @@ returns-3 c =
     let w = c .before in
     let e = w .before .before in
     let s = e .before .before .before .before .before in
+    let done =
     accepted-done _ _ _ _
     (past (e .before) ∙ passes no.Buffer (room (length (s .args .ts .now)) (length (s .args .out .now))) [] (rw (le-leb _ _ (e .if1 .left))))
-    (rw (toZ-ofZ w32 _ (s .fits .x)) at (w .work .ensures))
+    (rw (toZ-ofZ w32 _ (s .fits .x)) at (w .work .ensures)) in
+    record { answers = done .answers; writes = done .writes }
 
 pub multiply-spec : {M : Type 1} → statement M
 multiply-spec =

@@ -5,51 +5,43 @@ use native.Mathlib.Omega.{arith}
 use borrow.Author.Needs.{needs}
 use Rattle.reach.specs.Sides.{sideTo?}
 use Rattle.reach.specs.Marks.{Adds}
-use Rattle.reach.proofs.Marks.{small, power-small, side-start, side-more, side-past}
+use Rattle.reach.proofs.Marks.{side-start, side-more, side-past}
 use Rattle.reach.proofs.side.Statement.{statement}
 use Rattle.reach.proofs.side.Tie as tie
 
 abbrev Inv-loop : tie.InvT-loop
-Inv-loop map₀ top u v a b far l₀ map l =
-    (l ≤ top + 1) × (a ≡ u) × (b ≡ v) × (far ≡ u + 2 ^ top) × Adds map₀ map (λ c. sideTo? top u v l c)
+Inv-loop map₀ top u v a far l₀ map l =
+    (l ≤ top + 1) × (a ≡ u) × (far ≡ u + 2 ^ top) × Adds map₀ map (λ c. sideTo? top u v l c)
 
 abbrev μ-loop : tie.MeasureT-loop
-μ-loop map₀ top u v a b far l₀ map l = top + 1 - l
+μ-loop map₀ top u v a far l₀ map l = top + 1 - l
 
 power-requires : tie.Need-power-requires Inv-loop μ-loop
 power-requires c κs = search needs
 
 add-far : tie.Need-add-far Inv-loop μ-loop
-add-far c =
-    let st = c .before .before in
-    record { fits = omega (arith, c .power .ensures, power-small (st .args .top) (st .pre .0 .0), st .pre .1) }
+add-far c = search needs
 
 loop-holds : tie.Need-loop-holds Inv-loop μ-loop
 loop-holds c =
     let a = c .before .before .args in
-    (omega arith, refl, refl, omega (arith, c .power .ensures), side-start (a .top) (a .u) (a .v) (a .map .now))
+    (omega arith, refl, omega (arith, c .power .ensures), side-start (a .top) (a .u) (a .v) (a .map .now))
 
 shifted-requires : tie.Need-shifted-requires Inv-loop μ-loop
-shifted-requires c κs =
-    let s = c .before in
-    let st = s .before .before .before in
-    (small (st .args .top) (st .args .v) (st .pre .0 .0) (st .pre .2 .1), omega (arith, c .loop-test .taken, st .pre .0 .0))
+shifted-requires c κs = search needs
 
 same-length : tie.Need-same-length Inv-loop μ-loop
-same-length c = c .before .before .before .loop .inv .4 .long
+same-length c = c .before .before .before .loop .inv .3 .long
 
 returns : tie.Need-returns Inv-loop μ-loop
 returns c =
     let s = c .before .before .before in
     let st = s .before .before .before in
     side-past (st .args .top) (st .args .u) (st .args .v) (s .loop .l) (st .pre .1) (st .pre .2) (omega (arith, c .before .before .loop-test .taken))
-    (omega (arith, c .if1 .taken, c .before .shifted .ensures, s .loop .inv .3)) (s .loop .inv .4)
+    (omega (arith, c .if1 .taken, c .before .shifted .ensures, s .loop .inv .2)) (s .loop .inv .3)
 
 add-mark : tie.Need-add-mark Inv-loop μ-loop
-add-mark c =
-    let s = c .before .before .before .before in
-    let st = s .before .before .before in
-    record { fits = omega (arith, c .before .if1 .left, s .loop .inv .3, power-small (st .args .top) (st .pre .0 .0), st .pre .1) }
+add-mark c = search needs
 
 mark-requires : tie.Need-mark-requires Inv-loop μ-loop
 mark-requires c κs = search needs
@@ -75,21 +67,20 @@ loop-again c =
     let a = s .before .before .before .args in (
       omega (arith, sh .before .loop-test .taken),
       refl,
-      refl,
-      s .loop .inv .3,
+      s .loop .inv .2,
       side-more (a .top) (a .u) (a .v) (s .loop .l) (a .u + sh .shifted .result) (two .before .apart .result)
           (omega (arith, sh .shifted .ensures)) (omega (arith, sh .shifted .ensures, two .before .apart .ensures))
-          (s .loop .inv .4) (one .mark .ensures) (two .mark2 .ensures),
+          (s .loop .inv .3) (one .mark .ensures) (two .mark2 .ensures),
     )
 
 same-length-2 : tie.Need-same-length-2 Inv-loop μ-loop
-same-length-2 c = c .before .loop .inv .4 .long
+same-length-2 c = c .before .loop .inv .3 .long
 
 returns-2 : tie.Need-returns-2 Inv-loop μ-loop
 returns-2 c =
     let a = c .before .before .before .before .args in
     let e : c .before .loop .l ≡ a .top + 1 = omega arith in
-    subst (λ (l : ℕ). Adds (a .map .now) (c .before .loop .map) (λ c. sideTo? (a .top) (a .u) (a .v) l c)) e (c .before .loop .inv .4)
+    subst (λ (l : ℕ). Adds (a .map .now) (c .before .loop .map) (λ c. sideTo? (a .top) (a .u) (a .v) l c)) e (c .before .loop .inv .3)
 
 pub side-spec : {M : Type 1} → statement M
 side-spec =

@@ -14,8 +14,11 @@ last-word : (w : List ℕ) (i index : ℕ) → (index ≡ 0 → ⊥) → index �
 last-word w i zero z h = absurd (z refl)
 last-word w i (suc k) z h = sym (value-is i w k (omega arith) ∙ ap (λ j. getD w j 0) (omega arith))
 
+input : (w : List ℕ) (i index : ℕ) → index ≡ 0 → 1 ≡ getD (ready (rows i w)) index 0
+input w i index e = rw e
+
 returns : tie.Need-returns
-returns c = search needs
+returns c = input _ _ _ (c .if1 .taken)
 
 mul-result : tie.Need-mul-result
 mul-result c = search needs

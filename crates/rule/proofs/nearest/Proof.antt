@@ -6,9 +6,10 @@ use Prim.Native.Nat.{_+_, _-_, _≤_}
 use native.Mathlib.Omega.{arith}
 use borrow.Author.Needs.{needs}
 use lib.ListN.{length, getD, drop, drop-of-length-le}
-use Rattle.constants.specs.Held.{kept}
+use Rattle.wanted.specs.Held.{kept}
+use Rattle.wanted.proofs.Kept.{kept-in, kept-next, kept-end}
 use Rattle.rule.specs.Rule.{firstMarked}
-use Rattle.rule.proofs.Laws.{kept-in, kept-next, kept-end, marked-hit, marked-miss, marked-end}
+use Rattle.rule.proofs.Laws.{marked-hit, marked-miss, marked-end}
 use Rattle.rule.proofs.nearest.Statement.{statement}
 use Rattle.rule.proofs.nearest.Tie as tie
 

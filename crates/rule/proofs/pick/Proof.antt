@@ -7,10 +7,11 @@ use native.Mathlib.Omega.{arith}
 use borrow.Author.Needs.{needs}
 use lib.ListN.{length, getD, drop, drop-of-length-le}
 use Rattle.meaning.specs.Generator.{ruleB}
-use Rattle.constants.specs.Held.{kept}
+use Rattle.wanted.specs.Held.{kept}
+use Rattle.wanted.proofs.Kept.{kept-in, kept-next, kept-end}
 use Rattle.ready.specs.Listed.{listed}
 use Rattle.serving.proofs.RuleB.{b-empty}
-use Rattle.rule.proofs.Laws.{kept-in, kept-next, kept-end, picked-at, picked-none, ceiling}
+use Rattle.rule.proofs.Laws.{picked-at, picked-none, ceiling}
 use Rattle.rule.proofs.pick.Statement.{statement}
 use Rattle.rule.proofs.pick.Tie as tie
 

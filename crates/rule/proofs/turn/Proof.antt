@@ -8,14 +8,16 @@ use borrow.Author.Needs.{needs}
 use lib.ListN.{length, getD}
 use Rattle.meaning.specs.declared.Row.{Row}
 use Rattle.meaning.specs.Digits.{prefixes}
+use Rattle.meaning.specs.Graph.{values}
 use Rattle.meaning.specs.Generator.{rowFor, ruleA, ruleC, turn}
-use Rattle.constants.specs.Held.{kept}
+use Rattle.wanted.specs.Held.{kept}
+use Rattle.wanted.proofs.Kept.{kept-at, kept-inside, kept-in, kept-nothing}
 use Rattle.ready.specs.Listed.{listed}
 use Rattle.draft.specs.Growth.{Open, Grown, atMostOne}
 use Rattle.draft.proofs.Laws.{grown-none, grown-then, open-on, open-less}
 use Rattle.rule.specs.declared.Chosen.{Chosen}
 use Rattle.rule.specs.Rule.{Serves, Picked, NoneNear}
-use Rattle.rule.proofs.Laws.{kept-at, kept-inside, kept-in, kept-nothing, Nearest, near-inside, near-at, near-nothing, row-value, turn-none, turn-a, turn-b, turn-c, turn-two}
+use Rattle.rule.proofs.Laws.{Nearest, near-inside, near-at, near-nothing, row-value, turn-none, turn-a, turn-b, turn-c, turn-two}
 use Rattle.rule.proofs.turn.Statement.{statement}
 use Rattle.rule.proofs.turn.Tie as tie
 
@@ -56,12 +58,16 @@ two : (c : tie.After-c2) → let a = c .before .before .before .before .before .
 two c = turn-two _ _ _ _ _ (none-near (c .before .before .before .before) .0) (picked-is c)
 
 -- the set after the row of s
+with-s : (c : tie.After-add-first2) → let d = c .before .before .before .before in let a = d .before .before .before .before .before .before .before .before .before .before .before .args in
+    listed (c .add-first2 .result) ≡ listed (a .set) ++ values (atMostOne (rowFor (a .top) (listed (a .set)) (d .c2 .given .0 .1 .0)))
+with-s c = c .add-first2 .ensures .lists
+
 more-lists : (c : tie.After-add-first2) → let d = c .before .before .before .before in let a = d .before .before .before .before .before .before .before .before .before .before .before .args in
     listed (c .add-first2 .result) ≡ listed (a .set) ++ (d .c2 .given .0 .1 .0 ∷ [])
 more-lists c =
     let d = c .before .before .before .before in
     let a = d .before .before .before .before .before .before .before .before .before .before .before .args in
-    c .add-first2 .ensures .lists ∙ ap (λ (l : List ℕ). listed (a .set) ++ l) (row-value (a .top) (listed (a .set)) _ (picked-is d .first))
+    with-s c ∙ ap (λ (l : List ℕ). listed (a .set) ++ l) (row-value (a .top) (listed (a .set)) _ (picked-is d .first))
 
 -- ---- step C
 

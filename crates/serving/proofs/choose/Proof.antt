@@ -1,10 +1,8 @@
 -- `choose` meets its contract: the least value found below the bound is the choice, and half of it the trials; else all candidates were tried.
 -- Assumes nothing.
-use mathlib.Core.Path.{_≡_}
 use Prim.Native.Nat.{_-_, _*_, _^_, _≤_}
 use native.Mathlib.Omega.{arith}
-use lib.Pow.{pow-pos}
-use Rattle.reach.proofs.Marks.{power-small}
+use lib.Pow.{pow-pos, pow-mono}
 use Rattle.reach.proofs.Serves.{some-bits}
 use Rattle.serving.proofs.Candidates.{half}
 use Rattle.serving.proofs.Choosing.{choice-at, choice-nothing}
@@ -16,7 +14,7 @@ bounds : (c : tie.After-last) → let a = c .before .before .before .args in (2 
 bounds c =
     let st = c .before .before .before in
     let h = half (st .args .top) (some-bits (st .args .top) (st .args .c) (st .pre .1)) in
-    (omega (arith, c .last .ensures), power-small (st .args .top) (st .pre .0 .wide .0))
+    (omega (arith, c .last .ensures), pow-mono {i = st .args .top} {j = 19} (st .pre .0 .wide .0))
 
 last-requires : tie.Need-last-requires
 last-requires c κs =

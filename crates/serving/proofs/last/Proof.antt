@@ -1,8 +1,5 @@
 -- `last` meets its contract: the smaller of the two fits. Assumes nothing.
-use Prim.Native.Nat.{_-_}
-use native.Mathlib.Omega.{arith}
 use borrow.Author.Needs.{needs}
-use Rattle.reach.proofs.Marks.{power-small}
 use Rattle.serving.proofs.last.Statement.{statement}
 use Rattle.serving.proofs.last.Tie as tie
 
@@ -16,13 +13,13 @@ add-most : tie.Need-add-most
 add-most c = search needs
 
 cast-result : tie.Need-cast-result
-cast-result c = record { fits = omega (arith, power-small (c .before .before .args .top - 1) (omega (arith, c .before .before .pre))) }
+cast-result c = search needs
 
 returns : tie.Need-returns
 returns c = search needs
 
 cast-result-2 : tie.Need-cast-result-2
-cast-result-2 c = record { fits = omega (arith, power-small (c .before .before .args .top - 1) (omega (arith, c .before .before .pre))) }
+cast-result-2 c = search needs
 
 returns-2 : tie.Need-returns-2
 returns-2 c = search needs

@@ -4,36 +4,31 @@ use Prim.Native.Nat.{ℕ, _+_, _-_, _^_, _≤_}
 use native.Mathlib.Omega.{arith}
 use borrow.Author.Needs.{needs}
 use Rattle.reach.specs.Sides.{sideTo?}
-use Rattle.reach.proofs.Marks.{small, power-small}
 use Rattle.serving.specs.Least.{Lowers}
 use Rattle.serving.proofs.Least.{side-start, side-more, side-past}
 use Rattle.serving.proofs.look_side.Statement.{statement}
 use Rattle.serving.proofs.look_side.Tie as tie
 
 abbrev Inv-loop : tie.InvT-loop
-Inv-loop map top u v low best a b far least₀ l₀ least l =
-    (l ≤ top + 1) × (a ≡ u) × (b ≡ v) × (far ≡ u + 2 ^ top) × Lowers map low (λ s. sideTo? top u v l s) best least
+Inv-loop map top u v low best a far least₀ l₀ least l =
+    (l ≤ top + 1) × (a ≡ u) × (far ≡ u + 2 ^ top) × Lowers map low (λ s. sideTo? top u v l s) best least
 
 abbrev μ-loop : tie.MeasureT-loop
-μ-loop map top u v low best a b far least₀ l₀ least l = top + 1 - l
+μ-loop map top u v low best a far least₀ l₀ least l = top + 1 - l
 
 power-requires : tie.Need-power-requires Inv-loop μ-loop
 power-requires c κs = search needs
 
 add-far : tie.Need-add-far Inv-loop μ-loop
-add-far c =
-    let st = c .before .before in
-    record { fits = omega (arith, c .power .ensures, power-small (st .args .top) (st .pre .0 .0), st .pre .1) }
+add-far c = search needs
 
 loop-holds : tie.Need-loop-holds Inv-loop μ-loop
 loop-holds c =
     let a = c .before .before .args in
-    (omega arith, refl, refl, omega (arith, c .power .ensures), side-start (a .top) (a .u) (a .v) (a .map .now) (a .low) (a .best))
+    (omega arith, refl, omega (arith, c .power .ensures), side-start (a .top) (a .u) (a .v) (a .map .now) (a .low) (a .best))
 
 shifted-requires : tie.Need-shifted-requires Inv-loop μ-loop
-shifted-requires c κs =
-    let st = c .before .before .before .before in
-    (small (st .args .top) (st .args .v) (st .pre .0 .0) (st .pre .2 .1), omega (arith, c .loop-test .taken, st .pre .0 .0))
+shifted-requires c κs = search needs
 
 returns : tie.Need-returns Inv-loop μ-loop
 returns c =
@@ -41,13 +36,10 @@ returns c =
     let st = s .before .before .before in
     let a = st .args in
     side-past (a .top) (a .u) (a .v) (a .map .now) (a .low) (s .loop .l) (st .pre .1) (st .pre .2) (omega (arith, c .before .before .loop-test .taken))
-    (omega (arith, c .if1 .taken, c .before .shifted .ensures, s .loop .inv .3)) (s .loop .inv .4)
+    (omega (arith, c .if1 .taken, c .before .shifted .ensures, s .loop .inv .2)) (s .loop .inv .3)
 
 add-look : tie.Need-add-look Inv-loop μ-loop
-add-look c =
-    let s = c .before .before .before in
-    let st = s .before .before .before in
-    record { fits = omega (arith, c .if1 .left, s .loop .inv .3, power-small (st .args .top) (st .pre .0 .0), st .pre .1) }
+add-look c = search needs
 
 look-requires : tie.Need-look-requires Inv-loop μ-loop
 look-requires c κs = search needs
@@ -72,11 +64,10 @@ loop-again c =
     let a = s .before .before .before .args in (
       omega (arith, sh .before .loop-test .taken),
       refl,
-      refl,
-      s .loop .inv .3,
+      s .loop .inv .2,
       side-more (a .top) (a .u) (a .v) (a .map .now) (a .low) (s .loop .l) (a .u + sh .shifted .result) (c .before .apart .result)
           (omega (arith, sh .shifted .ensures)) (omega (arith, sh .shifted .ensures, c .before .apart .ensures))
-          (s .loop .inv .4) (one .look .ensures) (c .look2 .ensures),
+          (s .loop .inv .3) (one .look .ensures) (c .look2 .ensures),
     )
 
 returns-2 : tie.Need-returns-2 Inv-loop μ-loop
@@ -84,7 +75,7 @@ returns-2 c =
     let s = c .before in
     let a = s .before .before .before .args in
     let e : s .loop .l ≡ a .top + 1 = omega arith in
-    subst (λ (l : ℕ). Lowers (a .map .now) (a .low) (λ s. sideTo? (a .top) (a .u) (a .v) l s) (a .best) (s .loop .least)) e (s .loop .inv .4)
+    subst (λ (l : ℕ). Lowers (a .map .now) (a .low) (λ s. sideTo? (a .top) (a .u) (a .v) l s) (a .best) (s .loop .least)) e (s .loop .inv .3)
 
 pub look-side-spec : {M : Type 1} → statement M
 look-side-spec =

@@ -4,7 +4,6 @@ use Prim.Native.Nat.{ℕ, _+_, _-_, _≤_}
 use native.Mathlib.Omega.{arith}
 use borrow.Author.Needs.{needs}
 use Rattle.reach.specs.Sides.{twice?}
-use Rattle.reach.proofs.Marks.{power-small}
 use Rattle.serving.specs.Least.{Lowers}
 use Rattle.serving.proofs.Least.{twice-start, twice-more, power-two}
 use Rattle.serving.proofs.look_twice.Statement.{statement}
@@ -37,9 +36,7 @@ look-factor-requires c κs =
     (st .pre .1 .0, omega (arith, c .power .ensures, power-two (at .loop .l)), omega (arith, st .pre, at .loop .inv .2 .least))
 
 add-look-factor : tie.Need-add-look-factor Inv-loop μ-loop
-add-look-factor c =
-    let at = c .before .before .before in
-    record { fits = omega (arith, c .before .power .ensures, power-small (at .loop .l + 1) (omega (arith, at))) }
+add-look-factor c = search needs
 
 look-factor-requires-2 : tie.Need-look-factor-requires-2 Inv-loop μ-loop
 look-factor-requires-2 c κs =
@@ -61,7 +58,7 @@ loop-again c =
     let a = at .before .before .args in (
       omega (arith, at),
       refl,
-      twice-more (a .c) (a .map .now) (a .low) (at .loop .l) _ _ (ap (λ (x : ℕ). x - 1) (pw .power .ensures)) (ap (λ (x : ℕ). x + 1) (pw .power .ensures))
+      twice-more (a .c) (a .map .now) (a .low) (at .loop .l) _ _ (ap (λ (x : ℕ). x - 1) (pw .power .ensures .0)) (ap (λ (x : ℕ). x + 1) (pw .power .ensures .0))
           (at .loop .inv .2) (one .look-factor .ensures) (c .look-factor2 .ensures),
     )
 

@@ -1,7 +1,5 @@
 -- `served` meets its contract: a value is found below 2 ^ top exactly if one serves. Assumes nothing.
-use native.Mathlib.Omega.{arith}
 use borrow.Author.Needs.{needs}
-use Rattle.reach.proofs.Marks.{power-small}
 use Rattle.serving.proofs.Choosing.{served-is}
 use Rattle.serving.proofs.served.Statement.{statement}
 use Rattle.serving.proofs.served.Tie as tie
@@ -10,9 +8,7 @@ power-requires : tie.Need-power-requires
 power-requires c κs = search needs
 
 cast-bound : tie.Need-cast-bound
-cast-bound c =
-    let st = c .before .before .before in
-    record { fits = omega (arith, c .power .ensures, power-small (st .args .top) (st .pre .0 .wide .0)) }
+cast-bound c = search needs
 
 least-partner-requires : tie.Need-least-partner-requires
 least-partner-requires c κs = search needs
@@ -24,7 +20,7 @@ returns c =
     let st = c .before .before .before .before in
     let a = st .args in
     served-is (a .top) (a .map .now) (a .ready .now) (a .n) (a .c) (st .pre .0) (st .pre .1) (st .pre .2)
-    (pw .result) (lp .result) (pw .ensures) (lp .ensures)
+    (pw .result) (lp .result) (pw .ensures .0) (lp .ensures)
 
 pub served-spec : {M : Type 1} → statement M
 served-spec = tie.close (tie.spec power-requires cast-bound least-partner-requires returns)
