@@ -1,9 +1,9 @@
 -- `row_front` meets its contract: five fields, one after the other. Assumes nothing.
 use borrow.Author.Needs.{needs}
 use Rattle.writing.proofs.Writing.{_⨾_, kept}
-use Rattle.lines.specs.Parts.{rowFront}
-use Rattle.lines.proofs.row_front.Statement.{statement}
-use Rattle.lines.proofs.row_front.Tie as tie
+use Rattle.graph_lines.specs.Parts.{rowFront}
+use Rattle.graph_lines.proofs.row_front.Statement.{statement}
+use Rattle.graph_lines.proofs.row_front.Tie as tie
 
 slice-aggregate-field : tie.Need-slice-aggregate-field
 slice-aggregate-field c = search needs

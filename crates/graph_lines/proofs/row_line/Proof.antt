@@ -1,9 +1,9 @@
 -- `row_line` meets its contract: both halves of the line of that row. Assumes nothing.
 use borrow.Author.Needs.{needs}
 use Rattle.writing.proofs.Writing.{_⨾_, same-text, kept}
-use Rattle.lines.proofs.Laws.{row-text}
-use Rattle.lines.proofs.row_line.Statement.{statement}
-use Rattle.lines.proofs.row_line.Tie as tie
+use Rattle.graph_lines.proofs.Laws.{row-text}
+use Rattle.graph_lines.proofs.row_line.Statement.{statement}
+use Rattle.graph_lines.proofs.row_line.Tie as tie
 
 sub-k : tie.Need-sub-k
 sub-k c = search needs

@@ -12,8 +12,8 @@ use Rattle.meaning.specs.Widths.{outputWidth}
 use Rattle.laws.proofs.Graphs.{length-ready}
 use Rattle.laws.proofs.Products.{index-inside}
 use Rattle.writing.proofs.Writing.{kept}
-use Rattle.lines.proofs.out_line.Statement.{statement}
-use Rattle.lines.proofs.out_line.Tie as tie
+use Rattle.graph_lines.proofs.out_line.Statement.{statement}
+use Rattle.graph_lines.proofs.out_line.Tie as tie
 
 -- the target's own parts
 parts-are : (c : tie.After-take-apart) → c .take-apart .result ≡ apart (c .before .before .before .args .t)
