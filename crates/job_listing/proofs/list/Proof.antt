@@ -15,9 +15,9 @@ use Rattle.laws.proofs.Checked.{Good, sized-of}
 use Rattle.laws.proofs.Graphs.{length-rows}
 use Rattle.listing.specs.Parts.{Order}
 use Rattle.writing.proofs.Writing.{same-text}
-use Rattle.reply.proofs.Orders.{drawn-sized, order-of, order-front, listing-is}
-use Rattle.reply.proofs.list.Statement.{statement}
-use Rattle.reply.proofs.list.Tie as tie
+use Rattle.job_listing.proofs.Orders.{drawn-sized, order-of, order-front, listing-is}
+use Rattle.job_listing.proofs.list.Statement.{statement}
+use Rattle.job_listing.proofs.list.Tie as tie
 
 good : (c : tie.Start) → Good (natural (c .args .bits)) (c .args .ts .now) (c .args .n) (c .args .words .now)
 good c = sized-of _ _ _ _ _ (drawn-sized (c .pre .1) (natural (c .args .input)) (c .pre .2) (c .pre .3)) .good

@@ -27,7 +27,7 @@ use Rattle.laws.proofs.Ranking.{ranking-permutes}
 use Rattle.laws.proofs.Stages.{stops, passes, passes-on, of-need}
 use Rattle.laws.proofs.Tests.{up-in}
 use Rattle.listing.specs.Parts.{Order}
-use Rattle.reply.specs.Drawing.{Drawing}
+use Rattle.job_listing.specs.Drawing.{Drawing}
 use Rattle.laws.proofs.Scan.{up-length}
 
 -- ---- the order of the rows

@@ -10,9 +10,9 @@ use mir.ValLaws.{toZ-ofZ}
 use Rattle.meaning.specs.Job.{Asked, natural}
 use Rattle.laws.proofs.Tests.{T-of, all-of, pair-all}
 use Rattle.writing.proofs.Writing.{same-text, within}
-use Rattle.reply.proofs.Orders.{all-tests, reply-width, reply-listing}
-use Rattle.reply.proofs.sized.Statement.{statement}
-use Rattle.reply.proofs.sized.Tie as tie
+use Rattle.job_listing.proofs.Orders.{all-tests, reply-width, reply-listing}
+use Rattle.job_listing.proofs.sized.Statement.{statement}
+use Rattle.job_listing.proofs.sized.Tie as tie
 
 abbrev job : (c : tie.Start) → Asked
 job c = record { bits = c .args .bits; input = c .args .input; byWidth = c .args .by-width; targets = c .args .ts .now }

@@ -12,10 +12,10 @@ use Rattle.meaning.specs.Job.{Asked, natural}
 use Rattle.meaning.specs.Refusals.{Done, admitted, drawnTold, rowsWritten}
 use Rattle.laws.proofs.Generated.{call-of, call-rows, call-accepted, call-refused}
 use Rattle.writing.proofs.Writing.{same-text, within}
-use Rattle.reply.specs.Drawing.{Drawing}
-use Rattle.reply.proofs.Orders.{reply-refused}
-use Rattle.reply.proofs.draw.Statement.{statement}
-use Rattle.reply.proofs.draw.Tie as tie
+use Rattle.job_listing.specs.Drawing.{Drawing}
+use Rattle.job_listing.proofs.Orders.{reply-refused}
+use Rattle.job_listing.proofs.draw.Statement.{statement}
+use Rattle.job_listing.proofs.draw.Tie as tie
 
 abbrev job : (c : tie.Start) → Asked
 job c = record { bits = c .args .bits; input = c .args .input; byWidth = c .args .by-width; targets = c .args .ts .now }

@@ -12,9 +12,9 @@ use Rattle.meaning.specs.Listing.{rowOrder}
 use Rattle.meaning.specs.Refusals.{mostRows}
 use Rattle.laws.proofs.Checked.{sized-of}
 use Rattle.laws.proofs.Graphs.{length-rows}
-use Rattle.reply.proofs.Laws.{ranked-written}
-use Rattle.reply.proofs.arrange.Statement.{statement}
-use Rattle.reply.proofs.arrange.Tie as tie
+use Rattle.job_listing.proofs.Laws.{ranked-written}
+use Rattle.job_listing.proofs.arrange.Statement.{statement}
+use Rattle.job_listing.proofs.arrange.Tie as tie
 
 few : (c : tie.Start) → c .args .n ≤ mostRows
 few c = sized-of _ _ _ _ _ (c .pre .0) .good .room .0

@@ -6,9 +6,9 @@ use borrow.Author.Needs.{needs}
 use lib.ListN.{length, length-set}
 use Rattle.meaning.specs.Basics.{upFrom, over}
 use Rattle.laws.proofs.Stages.{over-none}
-use Rattle.reply.proofs.Laws.{counted}
-use Rattle.reply.proofs.count_up.Statement.{statement}
-use Rattle.reply.proofs.count_up.Tie as tie
+use Rattle.job_listing.proofs.Laws.{counted}
+use Rattle.job_listing.proofs.count_up.Statement.{statement}
+use Rattle.job_listing.proofs.count_up.Tie as tie
 
 abbrev Inv-loop : tie.InvT-loop
 Inv-loop order₀ n i₀ order i = (i ≤ n) × (order ≡ over (upFrom 1 i) order₀) × (length order ≡ length order₀)
