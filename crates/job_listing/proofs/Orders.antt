@@ -67,9 +67,6 @@ module _ (byWidth : Bool) (input : ℕ) (xs : List Row) where
 -- ---- a graph that was drawn
 
 module _ {b : ℕ} {ts : List ℤ} {w : List ℕ} {n : ℕ} (d : Drawing b ts w n) where
-  pub drawn-length : length (rows n w) ≡ n
-  drawn-length = length-rows n w
-
   pub drawn-sized : (input : ℕ) → 2 ≤ input → input ≤ 32 → sized b ts n w input ≡ Accepted
   unfolding sized checked
   drawn-sized input h k =
