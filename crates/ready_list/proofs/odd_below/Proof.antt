@@ -6,8 +6,8 @@ use borrow.Author.Needs.{needs}
 use borrow.Author.Tests.{eq-eqb, ne-eqb}
 use lib.Dec.{ltb}
 use lib.Pow.{shl-exact}
-use Rattle.distance.proofs.odd_below.Statement.{statement}
-use Rattle.distance.proofs.odd_below.Tie as tie
+use Rattle.ready_list.proofs.odd_below.Statement.{statement}
+use Rattle.ready_list.proofs.odd_below.Tie as tie
 
 -- 1 << l
 power : (l : ℕ) → l ≤ 31 → 1 * 2 ^ l % 2 ^ 32 ≡ 2 ^ l

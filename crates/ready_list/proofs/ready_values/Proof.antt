@@ -12,8 +12,8 @@ use Rattle.meaning.specs.declared.Refusal.the-variants as no
 use Rattle.meaning.specs.Limits.{limit}
 use Rattle.meaning.specs.Refusals.{needEach, readyValues}
 use Rattle.laws.proofs.Walks.{each-miss, each-hit, each-end}
-use Rattle.distance.proofs.ready_values.Statement.{statement}
-use Rattle.distance.proofs.ready_values.Tie as tie
+use Rattle.ready_list.proofs.ready_values.Statement.{statement}
+use Rattle.ready_list.proofs.ready_values.Tie as tie
 
 abbrev fit : ℕ → ℕ → Bool
 fit b v = eqb (v % 2) 1 && ltb v (2 ^ limit b)

@@ -13,8 +13,8 @@ use Rattle.meaning.specs.Basics.{all}
 use Rattle.meaning.specs.Refusals.{readyLength, readyValues, target, distanceOrder, firstOf}
 use Rattle.laws.proofs.Tests.{pair-all, T-of, all-of}
 use Rattle.laws.proofs.Stages.{stops, passes, last, stops-at, passes-on}
-use Rattle.distance.proofs.admit.Statement.{statement}
-use Rattle.distance.proofs.admit.Tie as tie
+use Rattle.ready_list.proofs.admit.Statement.{statement}
+use Rattle.ready_list.proofs.admit.Tie as tie
 
 abbrev bits : ℕ → List Bool
 bits b = leb 2 b ∷ leb b 16 ∷ []
