@@ -41,7 +41,7 @@ pub fn row_line(out: &mut [u8], at: usize, words: &[u32], n: usize, i: u32, inpu
 {
     let k = i as usize - 1;
     let x = rows::row_at(words, ROW_LENGTH * k);
-    let width = widths::row_width(words, k, input);
+    let width = bits::row_width(words, k, input);
     let at = row_front(out, at, i, x);
     row_back(out, at, x, width)
 }
@@ -61,7 +61,7 @@ pub fn out_line(
 {
     let parts = constants::take_apart(t);
     let index = rows::lowest(n, words, parts.odd) as u32;
-    let width = widths::output_width(t, input);
+    let width = bits::output_width(t, input);
     out_fields(out, at, k, index, parts.shift, parts.sign, width)
 }
 

@@ -1,18 +1,17 @@
 -- `output_width` meets its contract: 32 bits of input and at most 32 more. Assumes nothing.
 use mathlib.Core.Path.{_≡_, sym, ap, _∙_}
 use mathlib.Core.Bool.{cond}
-use Prim.Native.Nat.{ℕ, _+_, _≤_, _<_, _^_}
+use Prim.Native.Nat.{_+_, _≤_}
 use native.Mathlib.Omega.{arith}
 use borrow.Author.Needs.{needs}
 use borrow.Author.Tests.{eq-eqb, ne-eqb}
-use lib.Dec.{eqb}
 use lib.IntN.{natAbs}
 use mir.Syntax.{w32}
 use mir.ValLaws.{toZ-ofZ}
 use Rattle.meaning.specs.Widths.{extraBits}
 use Rattle.laws.proofs.Widths.{extra-small}
-use Rattle.widths.proofs.output_width.Statement.{statement}
-use Rattle.widths.proofs.output_width.Tie as tie
+use Rattle.bits.proofs.output_width.Statement.{statement}
+use Rattle.bits.proofs.output_width.Tie as tie
 
 mag-is : (c : tie.After-magnitude) → c .magnitude .result ≡ natAbs (c .before .args .t)
 mag-is c = rw (toZ-ofZ w32 _ (c .before .fits .t)) at (c .magnitude .ensures)

@@ -1,13 +1,12 @@
 -- `row_width` meets its contract: 32 bits of input and at most 32 more. Assumes nothing.
-use mathlib.Core.Path.{_≡_}
 use Prim.Native.Nat.{_+_, _*_, _≤_}
 use native.Mathlib.Omega.{arith}
 use lib.ListN.{getD}
 use Rattle.meaning.specs.Widths.{extraBits}
 use Rattle.laws.proofs.Widths.{extra-small}
 use borrow.Author.Needs.{needs}
-use Rattle.widths.proofs.row_width.Statement.{statement}
-use Rattle.widths.proofs.row_width.Tie as tie
+use Rattle.bits.proofs.row_width.Statement.{statement}
+use Rattle.bits.proofs.row_width.Tie as tie
 
 mul-value : tie.Need-mul-value
 mul-value c = search needs

@@ -1,12 +1,12 @@
 -- `extra_bits` meets its contract. Assumes nothing.
-use mathlib.Core.Path.{_≡_, refl, sym, ap, _∙_}
+use mathlib.Core.Path.{sym, ap}
 use native.Mathlib.Omega.{arith}
 use borrow.Author.Needs.{needs}
 use lib.Count.{leading-le}
 use Rattle.meaning.specs.Widths.{leastFrom, extraBits}
 use Rattle.laws.proofs.Widths.{machine-bits}
-use Rattle.widths.proofs.extra_bits.Statement.{statement}
-use Rattle.widths.proofs.extra_bits.Tie as tie
+use Rattle.bits.proofs.extra_bits.Statement.{statement}
+use Rattle.bits.proofs.extra_bits.Tie as tie
 
 returns : tie.Need-returns
 unfolding extraBits leastFrom
