@@ -2,8 +2,7 @@
 -- them all, in front; and numbers that fit signed 32 bits. And what the code's answer says of the job. Assumes nothing.
 use mathlib.Core.Path.{_≡_, refl, subst, ap, _∙_, sym}
 use mathlib.Core.Bool.{Bool, true, false, cond}
-use mathlib.Core.List.{List, [], _∷_, List·Memᴰ, List·Memᴰ·not-nil, List·Memᴰ·cases-cons}
-use mathlib.Core.Logic.{⊎-elim}
+use mathlib.Core.List.{List, [], _∷_}
 use Prim.Native.Nat.{ℕ, zero, suc, _+_, _*_, _≤_}
 use native.Mathlib.Omega.{arith}
 use lib.Dec.{eqb, leb}
@@ -53,22 +52,17 @@ number-fits name s at z q e =
 record Run (s : List ℕ) (at : ℕ) (zs : List ℤ) (q : ℕ) : Type 0 where
   taken : at + 2 * length zs ≤ q
   inside : q ≤ length s
-  fit : (t : ℤ) → List·Memᴰ t zs → SFits w32 t
 
 run-more : (s : List ℕ) (at : ℕ) (z : ℤ) (p : ℕ) (ys : List ℤ) (q : ℕ) → numberAt s at ≡ Number z p → Run s (p + 1) ys q → Run s at (z ∷ ys) q
 run-more s at z p ys q e w =
-    let (l, f) = number-read s at z p e in
+    let l = number-read s at z p e .0 in
     let h = w .taken in
-    record {
-      taken = omega arith;
-      inside = w .inside;
-      fit = λ t i. ⊎-elim (λ k. subst (SFits w32) (sym k) f) (w .fit t) (List·Memᴰ·cases-cons i);
-    }
+    record { taken = omega arith; inside = w .inside }
 
 run-none : (s : List ℕ) (p : ℕ) → stands (bytes "\n") s p ≡ true → Run s (p + 1) [] (p + 1)
 run-none s p e =
     let h = stands-within (bytes "\n") s p e in
-    record { taken = omega arith; inside = omega arith; fit = λ t i. absurd (List·Memᴰ·not-nil i) }
+    record { taken = omega arith; inside = omega arith }
 
 -- behind a number: a comma and further numbers, or a line feed
 run-by : (s : List ℕ) (at : ℕ) (z : ℤ) (p : ℕ) (l : Line (List ℤ)) (b : Bool) (zs : List ℤ) (q : ℕ) → numberAt s at ≡ Number z p
@@ -100,7 +94,7 @@ run-line s at zs q e = let (t, f) = cond-line (stands (bytes "targets=") s at) _
         let l = stands-within (bytes "\n") s (at + 8) h in
         let i : [] ≡ zs = cc in
         let k : at + 9 ≡ q = cc in
-        subst (λ xs. Run s (at + 8) xs q) i (record { taken = omega arith; inside = omega arith; fit = λ t m. absurd (List·Memᴰ·not-nil m) })
+        subst (λ xs. Run s (at + 8) xs q) i (record { taken = omega arith; inside = omega arith })
     go false h f = run-of (length s) s (at + 8) zs q f
 
 -- ---- a job that asks
@@ -121,7 +115,6 @@ record Fits (j : Asked) : Type 0 where
   few : length (j .targets) ≤ 128
   bits : SFits w32 (j .bits)
   input : SFits w32 (j .input)
-  each : (t : ℤ) → List·Memᴰ t (j .targets) → SFits w32 t
 
 fits-by : (s : List ℕ) (b w : ℤ) (r : Bool) (ts : List ℤ) (p q at to : ℕ) (j : Asked) → length s ≤ 256 → numberLine (bytes "bits=") s 0 ≡ good b p
     → numberLine (bytes "input=") s p ≡ good w q → targetsLine s at ≡ good ts to
@@ -132,7 +125,7 @@ fits-by s b w r ts p q at to j h k l m e =
     let high = n .inside in
     let i : _≡_ {A = Asked} (record { bits = b; input = w; byWidth = r; targets = ts }) j = cc in
     subst Fits i
-    (record { few = omega arith; bits = number-fits (bytes "bits=") s 0 b p k; input = number-fits (bytes "input=") s p w q l; each = n .fit })
+    (record { few = omega arith; bits = number-fits (bytes "bits=") s 0 b p k; input = number-fits (bytes "input=") s p w q l })
 
 fits-of : (s : List ℕ) (j : Asked) → jobOf s ≡ asks j → Fits j
 unfolding jobOf
@@ -160,9 +153,6 @@ module _ (s : List ℕ) (j : Asked) (e : jobOf s ≡ asks j) where
 
   pub input-fits : SFits w32 (j .input)
   input-fits = fits-of s j e .input
-
-  pub targets-fit : (t : ℤ) → List·Memᴰ t (j .targets) → SFits w32 t
-  targets-fit = fits-of s j e .each
 
 -- ---- the job of an answer
 

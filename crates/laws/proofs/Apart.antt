@@ -1,6 +1,6 @@
--- Taking apart is exact, and unique; also at the least number of 32 bits. Assumes nothing.
+-- Taking apart is exact, and unique. Assumes nothing.
 use mathlib.Core.Path.{_≡_, refl, sym, ap, ap₂, _∙_}
-use Prim.Native.Nat.{ℕ, zero, suc, _+_, _*_, _/_, _%_, _^_, _≤_, _<_}
+use Prim.Native.Nat.{ℕ, zero, suc, _*_, _/_, _%_, _^_, _<_}
 use native.Mathlib.Nat.{mul-comm, one-mul, mul-pos}
 use native.Mathlib.Omega.{arith}
 use lib.IntN.{ℤ, pos, negsuc, negℤ, natAbs, _*ℤ_}
@@ -62,8 +62,3 @@ apart-only t p h e =
     let (z, q) = zeros-unique (natAbs t) (p .shift) (p .odd) o n in
     let g : signOf t ≡ p .sign = ap signOf e ∙ b in
     sym (ap (λ s. build s (shiftOf t) (oddOf t)) g ∙ ap₂ (build (p .sign)) z q)
-
--- the least number of 32 bits
-pub least-apart : apart (negsuc 2147483647) ≡ record { sign = negsuc 0; shift = 31; odd = 1 }
-unfolding apart zeros zerosIn
-least-apart = refl

@@ -156,8 +156,6 @@ step-valid b m p a s l =
 pub record PrefixRow (b : ℕ) (p : Prefix) : Type 0 where
   pub value-odd : p .value % 2 ≡ 1
   pub value-below : p .value < 2 ^ b
-  pub before-odd : p .before % 2 ≡ 1
-  pub before-below : p .before < 2 ^ b
   pub valid : Valid (limit b) (p .before) 1 (p .gap) 0 (p .s) 0 (p .value)
 
 pub prefix-row : (b c : ℕ) (p : Prefix) → c % 2 ≡ 1 → c < 2 ^ b → List·Memᴰ p (prefixes c) → PrefixRow b p
@@ -168,7 +166,5 @@ prefix-row b c p o l i =
     record {
       value-odd = q .0;
       value-below = omega arith;
-      before-odd = omega arith;
-      before-below = omega arith;
       valid = subst⁻¹ (λ x. Valid (limit b) x 1 (p .gap) 0 (p .s) 0 (p .value)) e (step-valid b m p (omega arith) s (omega arith));
     }

@@ -1,16 +1,16 @@
 -- The operation is symmetric (lemma 5.2 of document 004): c comes from u and v exactly if one of c, u and v, shifted left by at most L, is the sum
 -- or the difference of the two others, which treats the three alike. So c comes from u and v exactly if u comes from c and v. Assumes nothing.
-use mathlib.Core.Path.{_≡_, refl, sym, ap, _∙_, subst}
+use mathlib.Core.Path.{_≡_, sym, ap, _∙_, subst}
 use mathlib.Core.Logic.{_⊎_, inl, inr, _↔_}
-use Prim.Native.Nat.{ℕ, zero, suc, _+_, _-_, _*_, _/_, _%_, _^_, _≤_, _<_, min}
+use Prim.Native.Nat.{ℕ, zero, suc, _+_, _-_, _*_, _/_, _%_, _^_, _≤_, _<_}
 use native.Mathlib.Omega.{arith}
 use native.Mathlib.Decide.{decLe}
 use native.Mathlib.Nat.{pow-succ', mul-comm, le-mul-of-pos-right}
 use lib.Pow.{pow-mono}
-use Rattle.meaning.specs.Basics.{gap, zeros}
+use Rattle.meaning.specs.Basics.{gap}
 use Rattle.meaning.specs.Operation.{size, Outcome, Valid, Gives}
 use Rattle.laws.proofs.Zeros.{zeros-of-odd}
-use Rattle.laws.proofs.Operations.{Exact, exact-of, outcome-of}
+use Rattle.laws.proofs.Operations.{exact-of, outcome-of}
 
 -- a value that an operation can have: odd, and below 2 ^ L
 abbrev pub Odd : ℕ → ℕ → Type 0
@@ -49,11 +49,6 @@ balance-swap L x y z (difference j h e) = difference j h (omega arith)
 -- one of the three is
 abbrev pub Balanced : (L u v c : ℕ) → Type 0
 Balanced L u v c = Balance L c u v ⊎ (Balance L u c v ⊎ Balance L v c u)
-
-pub balanced-swap : (L u v c : ℕ) → Balanced L u v c → Balanced L v u c
-balanced-swap L u v c (inl b) = inl (balance-swap L c u v b)
-balanced-swap L u v c (inr (inl b)) = inr (inr b)
-balanced-swap L u v c (inr (inr b)) = inr (inl b)
 
 -- a positive multiple of 2 ^ j below 2 ^ (L + 1) has j at most L
 low-shift : (L m j n : ℕ) → m * 2 ^ j ≡ n → 0 < m → n < 2 * 2 ^ L → j ≤ L

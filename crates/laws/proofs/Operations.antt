@@ -2,19 +2,18 @@
 -- only ones. Assumes nothing.
 use mathlib.Core.Path.{_≡_, refl, sym, ap, ap₂, _∙_, subst₂}
 use mathlib.Core.Bool.{Bool, true, false, cond}
-use mathlib.Core.List.{List, [], _∷_}
-use Prim.Native.Nat.{ℕ, zero, suc, _+_, _-_, _*_, _/_, _%_, _^_, _≤_, _<_, min}
+use Prim.Native.Nat.{ℕ, zero, suc, _-_, _*_, _/_, _%_, _^_, _<_}
 use native.Mathlib.Omega.{arith}
-use native.Mathlib.Nat.{mul-div-cancel, mul-pos}
+use native.Mathlib.Nat.{mul-pos}
 use borrow.Author.Tests.{ltb-true, ltb-false}
-use lib.Dec.{T, leb, ltb, eqb, leb→le, le→leb, eqb→eq}
-use lib.IntN.{ℤ, pos, negsuc, negℤ, natAbs, subℕ, _+ℤ_, _-ℤ_}
+use lib.Dec.{T, ltb, leb→le, le→leb, eqb→eq}
+use lib.IntN.{ℤ, pos, negsuc, natAbs, _-ℤ_}
 use lib.Pow.{pow-pos}
 use Rattle.meaning.specs.declared.Operated.{Operated}
 use Rattle.meaning.specs.declared.Operated.the-variants.{Made, Invalid}
-use Rattle.meaning.specs.Basics.{gap, all, zeros}
+use Rattle.meaning.specs.Basics.{gap, zeros}
 use Rattle.meaning.specs.Operation.{whole, size, Outcome, Valid, outcomeTests, outcome?, validTests, valid?, operated}
-use Rattle.laws.proofs.Tests.{all-of, of-all, eq→eqb, true-of, false-of, T-of}
+use Rattle.laws.proofs.Tests.{all-of, of-all, eq→eqb, true-of, T-of}
 use Rattle.laws.proofs.Zeros.{zeros-whole, zeros-left, zeros-unique}
 
 -- ---- the test and the statement
@@ -114,10 +113,6 @@ module _ (L u v l1 l2 s : ℕ) where
       let e : c ≡ m / 2 ^ zeros m = k .outcome .value ∙ ap (λ z. m / 2 ^ z) f in
       let t = test-of-valid L u v l1 l2 s _ _ (subst₂ (Valid L u v l1 l2 s) f e k) in
       ap made (true-of is t) ∙ ap₂ (Made (whole u v l1 l2 s)) (sym f) (sym e)
-
-  pub operated-invalid : ((r c : ℕ) → Valid L u v l1 l2 s r c → ⊥) → operated L u v l1 l2 s ≡ Invalid
-  unfolding operated
-  operated-invalid h = ap made (false-of is (λ t. h (zeros m) (m / 2 ^ zeros m) (valid-of-test L u v l1 l2 s _ _ t)))
 
   pub operated-valid : (n : ℤ) (r c : ℕ) → operated L u v l1 l2 s ≡ Made n r c → Valid L u v l1 l2 s r c
   unfolding operated

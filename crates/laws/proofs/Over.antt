@@ -1,7 +1,7 @@
 -- A list written over the front of another, one place at a time. Assumes nothing.
 use mathlib.Core.Path.{_≡_, refl, sym, ap, _∙_}
 use mathlib.Core.List.{List, [], _∷_, _++_, append-assoc, map, map-append}
-use Prim.Native.Nat.{ℕ, zero, suc, _+_, _*_, _≤_, _<_}
+use Prim.Native.Nat.{ℕ, _+_, _*_, _≤_, _<_}
 use native.Mathlib.Omega.{arith}
 use native.Mathlib.Nat.{suc-add}
 use native.Mathlib.Numerals.{add-one}
@@ -13,10 +13,6 @@ use Rattle.meaning.specs.Graph.{rowLength, rowAt, rows}
 use Rattle.laws.proofs.Graphs.{length-rows, rows-more}
 
 module _ {A : Type 0} where
-  pub length-over : (new old : List A) → length new ≤ length old → length (over new old) ≡ length old
-  unfolding over
-  length-over new old h = simp (length-append, length-drop) (omega arith)
-
   -- the next place
   pub over-next : (new old : List A) (v : A) → length new < length old → set (over new old) (length new) v ≡ over (new ++ (v ∷ [])) old
   unfolding over

@@ -1,19 +1,19 @@
 -- The stages of a call: it accepts exactly if each stage does, and refuses exactly by the first stage that refuses; what each kind of stage says,
 -- with its place. Assumes nothing.
 use mathlib.Core.Path.{_≡_, refl, sym, ap, _∙_, subst}
-use mathlib.Core.Bool.{Bool, true, false, cond, _&&_}
+use mathlib.Core.Bool.{Bool, true, false, cond}
 use mathlib.Core.List.{List, [], _∷_, _++_, append-assoc, append-nil}
-use Prim.Native.Nat.{ℕ, zero, suc, _+_, _<_}
+use Prim.Native.Nat.{ℕ, suc, _+_}
 use native.Mathlib.Omega.{arith}
 use lib.Dec.{T, ltb→lt, lt→ltb, ltb}
-use lib.ListN.{length, getD, length-append}
+use lib.ListN.{length}
 use Rattle.meaning.specs.declared.Answer.{Answer}
 use Rattle.meaning.specs.declared.Answer.the-variants.{Accepted, Refused}
 use Rattle.meaning.specs.declared.Refusal.{Refusal}
 use Rattle.meaning.specs.declared.Refusal.the-variants as no
 use Rattle.meaning.specs.declared.Row.{Row}
 use Rattle.meaning.specs.Basics.{all, every, over}
-use Rattle.meaning.specs.Graph.{Fits, fits?, Sound, ready, values}
+use Rattle.meaning.specs.Graph.{Fits, fits?, Sound, values}
 use Rattle.meaning.specs.Refusals.{need, needEach, FirstBad, rowsFrom, FirstBadRow, firstOf, Done, given}
 use Rattle.laws.proofs.Tests.{both-of, of-both, true-of, false-of, T-of, All, all-of, of-all}
 use Rattle.laws.proofs.Operations.{valid-of-test, test-of-valid}

@@ -1,5 +1,5 @@
 -- The extra bits of a value are the least e with 2 ^ e at least it, and there is one such e. Assumes nothing.
-use mathlib.Core.Path.{_≡_, refl, sym, ap, _∙_, subst}
+use mathlib.Core.Path.{_≡_, refl, sym, subst}
 use mathlib.Core.Bool.{Bool, true, false}
 use Prim.Native.Nat.{ℕ, zero, suc, _+_, _-_, _*_, _^_, _≤_, _<_}
 use native.Mathlib.Nat.{le-antisymm, lt-of-not-le, not-le-of-lt, le-of-suc-le-suc, pow-succ'}
@@ -8,7 +8,7 @@ use native.Mathlib.Omega.{arith}
 use borrow.Author.Tests.{leb-true, leb-false}
 use lib.Count.{leadingZeros, leading-length}
 use lib.Dec.{leb}
-use lib.Pow.{pow-mono, pow-pos}
+use lib.Pow.{pow-mono}
 use Rattle.meaning.specs.Widths.{Least, leastFrom, extraBits}
 use Rattle.laws.proofs.Zeros.{below-pow}
 

@@ -1,48 +1,10 @@
--- What a line is, as the code makes it: its end, and a row's line in two halves. Assumes nothing.
-use mathlib.Core.Path.{_≡_, sym, ap, _∙_}
-use mathlib.Core.List.{List, [], _∷_, _++_, map, append-assoc, append-nil}
-use Prim.Native.Nat.{ℕ, _+_, _-_, _*_, _≤_}
-use native.Mathlib.Omega.{arith}
-use lib.ListN.{getD}
-use Rattle.meaning.specs.declared.Row.{Row}
-use Rattle.meaning.specs.Graph.{rowLength, rowAt, rows}
-use Rattle.meaning.specs.Listing.{after, pieces, fieldText, rowLine, rowText}
-use Rattle.meaning.specs.Text.{bytes}
-use Rattle.meaning.specs.Widths.{rowWidth}
-use Rattle.laws.proofs.Graphs.{row-of}
+-- What a line's end is, as the code makes it. Assumes nothing.
+use mathlib.Core.Path.{sym}
+use mathlib.Core.List.{List, _++_, append-assoc}
+use Prim.Native.Nat.{ℕ, _+_}
 use Rattle.writing.specs.Wrote.{Wrote}
 use Rattle.writing.proofs.Writing.{_⨾_, same-text}
-use Rattle.lines.specs.Parts.{frontFields, backFields, rowFront, rowBack}
-
--- ---- a line's end
 
 -- its last number and the line feed, written together
 pub ended : {m n a b c : ℕ} {d e f t : List ℕ} (u v : List ℕ) → Wrote m d a t e b → Wrote n e b (u ++ v) f c → Wrote (m + n) d a (t ++ u ++ v) f c
 ended {t = t} u v p q = same-text (sym (append-assoc t u v)) (p ⨾ q)
-
--- ---- a row's line
-
-after-is : (t : List ℕ) (ps : List (List ℕ)) → after t ps ≡ t ++ pieces ps
-after-is t [] = sym (append-nil t)
-after-is t (p ∷ ps) = after-is (t ++ p) ps ∙ append-assoc t p (pieces ps) ∙ ap (λ (l : List ℕ). t ++ l) (sym (after-is p ps))
-
-after-append : (t : List ℕ) (ps qs : List (List ℕ)) → after t (ps ++ qs) ≡ after t ps ++ pieces qs
-after-append t [] qs = after-is t qs
-after-append t (p ∷ ps) qs = after-append (t ++ p) ps qs
-
-pub pieces-append : (ps qs : List (List ℕ)) → pieces (ps ++ qs) ≡ pieces ps ++ pieces qs
-pieces-append ps qs = after-append [] ps qs
-
-halves : (i : ℕ) (x : Row) (width : ℕ) → rowLine i x width ≡ rowFront i x ++ rowBack x width
-unfolding rowLine rowFront rowBack
-halves i x width = pieces-append (map fieldText (frontFields i x)) (map fieldText (backFields x width) ++ (bytes "\n" ∷ []))
-
-module _ (input n : ℕ) (w : List ℕ) (i : ℕ) (x : Row) (width : ℕ) where
-  -- both halves, from the words
-  pub row-text : 1 ≤ i → i ≤ n → x ≡ rowAt w (rowLength * (i - 1)) → width ≡ rowWidth input (rowAt w (rowLength * (i - 1)))
-      → rowFront i x ++ rowBack x width ≡ rowText input (rows n w) i
-  row-text l h e f =
-      let g : getD (rows n w) (i - 1) (rowAt [] 0) ≡ x = row-of n w (i - 1) (rowAt [] 0) (omega arith) ∙ sym e in
-      sym (halves i x width)
-      ∙ ap (rowLine i x) (f ∙ ap (rowWidth input) (sym e))
-      ∙ ap (λ (y : Row). rowLine i y (rowWidth input y)) (sym g)

@@ -10,7 +10,7 @@ ghost use Rattle.meaning.specs.Graph.{rows};
 ghost use Rattle.meaning.specs.Listing.{pieces, reportText, headText, rowTexts, outTexts, textRoom};
 ghost use Rattle.meaning.specs.Refusals.{mostRows};
 ghost use Rattle.writing.specs.Wrote.{Wrote};
-ghost use Rattle.lines.specs.Parts.{Within};
+ghost use Rattle.graph_lines.specs.Parts.{Within};
 ghost use Rattle.listing.specs.Parts.{Order};
 
 fn report(out: &mut [u8], at: usize, by_width: bool) -> usize
@@ -82,7 +82,7 @@ fn row_lines(
     let mut at = from;
     let mut k = 0;
     while k < order.len() {
-        at = lines::row_line(out, at, words, n, order[k], input);
+        at = graph_lines::row_line(out, at, words, n, order[k], input);
         k += 1;
     }
     at
@@ -97,7 +97,7 @@ fn out_lines(out: &mut [u8], from: usize, words: &[u32], n: usize, ts: &[i32], i
     let mut k = 0;
     while k < ts.len() {
         let t = ts[k];
-        at = lines::out_line(out, at, words, n, (k + 1) as u32, t, input);
+        at = graph_lines::out_line(out, at, words, n, (k + 1) as u32, t, input);
         k += 1;
     }
     at

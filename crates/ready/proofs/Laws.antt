@@ -7,15 +7,12 @@ use borrow.Author.Tests.{lt-ltb, le-ltb}
 use lib.ListN.{length, getD, set, length-set, length-take}
 use lib.Seq.{getD-take, take-suc-set}
 use Rattle.ready.specs.declared.Ready.{Ready}
-use Rattle.ready.specs.Listed.{room, listed, Fit, started, grown, Started, Added}
+use Rattle.ready.specs.Listed.{room, listed, started, grown, Started, Added}
 
 -- ---- what is listed
 
 pub list-length : (r : Ready) → length (r .values) ≡ room → length (listed r) ≡ min (r .count) room
 list-length r h = length-take (r .count) (r .values) ∙ ap (min (r .count)) h
-
-pub list-fit : (r : Ready) → Fit r → length (listed r) ≡ r .count
-list-fit r f = omega (arith, list-length r (f .places), f .bound)
 
 pub list-at : (r : Ready) (i : ℕ) → i < r .count → getD (listed r) i 0 ≡ getD (r .values) i 0
 list-at r i h = getD-take (r .count) (r .values) i 0 h

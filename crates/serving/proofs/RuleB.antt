@@ -7,7 +7,6 @@ use mathlib.Core.Option.{Option, some, none}
 use Prim.Native.Nat.{ℕ, _+_, _-_, _^_, _≤_}
 use native.Mathlib.Omega.{arith}
 use lib.Dec.{T}
-use lib.ListN.{take}
 use Rattle.meaning.specs.declared.Row.{Row}
 use Rattle.meaning.specs.Basics.{firstSome, andThen}
 use Rattle.meaning.specs.Distance.{reach?, serves?, candidates}
@@ -16,11 +15,11 @@ use Rattle.laws.proofs.Choices.{found, first-from, then-from}
 use Rattle.laws.proofs.Inverse.{Odd}
 use Rattle.laws.proofs.Reach.{reach-is, reached-odd}
 use Rattle.laws.proofs.Rules.{serve-got}
-use Rattle.laws.proofs.Scan.{step, first-step, first-append, first-map}
+use Rattle.laws.proofs.Scan.{step, first-append, first-map}
 use Rattle.laws.proofs.Tests.{both-of, T-of}
 use Rattle.serving.specs.declared.Choice.the-variants.{At, Nothing}
-use Rattle.serving.specs.Choices.{used, serving, pick, chosenIn}
-use Rattle.serving.proofs.Scan.{first-take, through, first-through, used-through}
+use Rattle.serving.specs.Choices.{serving, pick, chosenIn}
+use Rattle.serving.proofs.Scan.{first-take, through, first-through}
 use Rattle.serving.proofs.Candidates.{candidates-all}
 
 -- ---- over a list of constants
@@ -47,16 +46,6 @@ unfolding ruleB trials
 b-step L vals c cs =
     first-append (serve L vals) (map (λ s. (c, s)) (candidates L)) (trials L cs)
     ∙ ap (λ o. step o (ruleB L vals cs)) (trials-of L vals c)
-
-pub rule-b-is : (L : ℕ) (vals cs : List ℕ) → ruleB L vals cs ≡ firstSome (rowsFor L vals) cs
-rule-b-is L vals [] = unfold firstSome in (b-empty L vals)
-rule-b-is L vals (c ∷ cs) =
-    b-step L vals c cs ∙ ap (step (rowsFor L vals c)) (rule-b-is L vals cs) ∙ sym (first-step (rowsFor L vals) c cs)
-
--- the trials of a constant are those of its choice, under any ceiling
-pub trials-used : (L : ℕ) (vals : List ℕ) (c k : ℕ)
-    → used (λ s. serve L vals (c, s)) (take k (candidates L)) ≡ used (serving L vals c) (take k (candidates L))
-trials-used L vals c k = used-through (serves? L vals c) (λ s. serve L vals (c, s)) (serve-got L vals c) (take k (candidates L))
 
 -- ---- what was chosen
 

@@ -3,9 +3,9 @@ use mathlib.Core.Path.{_≡_, refl, sym, ap, _∙_}
 use mathlib.Core.Bool.{Bool, true, false, cond}
 use mathlib.Core.List.{List, [], _∷_, map}
 use mathlib.Core.Option.{Option, some, none}
-use Prim.Native.Nat.{ℕ, zero, suc, _≤_}
+use Prim.Native.Nat.{ℕ, zero, suc}
 use native.Mathlib.Omega.{arith}
-use lib.ListN.{length, take}
+use lib.ListN.{take}
 use Rattle.meaning.specs.Basics.{firstSome, andThen}
 use Rattle.laws.proofs.Tests.{T-of}
 use Rattle.laws.proofs.Choices.{got, found}
@@ -32,15 +32,6 @@ module _ {ℓ κ} {A : Type ℓ} {B : Type κ} (f : A → Option B) where
 
   pub used-some : (x : A) (xs : List A) (b : B) → f x ≡ some b → used f (x ∷ xs) ≡ 1
   used-some x xs b e = used-step x xs ∙ ap (λ o. count o (used f xs)) e
-
-  -- no more are looked at than there are
-  pub used-le : (xs : List A) → used f xs ≤ length xs
-  used-le [] = unfold used in (omega arith)
-  used-le (x ∷ xs) = rw (used-step x xs) (go (f x) (used-le xs))
-    where
-      go : (o : Option B) → used f xs ≤ length xs → count o (used f xs) ≤ suc (length xs)
-      go none h = omega arith
-      go (some b) h = omega arith
 
 -- ---- parts of a list
 
@@ -89,13 +80,3 @@ module _ {κ} {B : Type κ} (t : ℕ → Bool) (g : ℕ → Option B) (e : (x : 
           first-some g x xs b q ∙ sym q ∙ sym (ap (λ (o : Option ℕ). andThen o g) (first-some (if-so t) x xs x (so x true h)) ∙ through g x)
       go false h ih =
           first-none g x xs (gone (g x) (e x ∙ h)) ∙ ih ∙ sym (ap (λ (o : Option ℕ). andThen o g) (first-none (if-so t) x xs (so x false h)))
-
-  pub used-through : (xs : List ℕ) → used g xs ≡ used (if-so t) xs
-  used-through [] = unfold used in refl
-  used-through (x ∷ xs) = go (t x) refl (used-through xs)
-    where
-      go : (b : Bool) → t x ≡ b → used g xs ≡ used (if-so t) xs → used g (x ∷ xs) ≡ used (if-so t) (x ∷ xs)
-      go true h ih =
-          let (b, q) = found (g x) (T-of (e x ∙ h)) in
-          used-some g x xs b q ∙ sym (used-some (if-so t) x xs x (so x true h))
-      go false h ih = used-none g x xs (gone (g x) (e x ∙ h)) ∙ ap suc ih ∙ sym (used-none (if-so t) x xs (so x false h))

@@ -58,7 +58,7 @@ fn of_number(name: u64, n: u32, line: Line) -> Line {
         return prefixes(n, line.word(digits::nonzero_digits(n)));
     }
     if name == names::BITS {
-        return line.word(widths::extra_bits(n));
+        return line.word(bits::extra_bits(n));
     }
     line
 }

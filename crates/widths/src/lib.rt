@@ -1,46 +1,14 @@
-// Widths: how many bits each row and each output needs for inputs of a given width.
+// Widths: how many bits each row and each output of a graph needs for inputs of a given width.
 use meaning::Answer;
-use meaning::ROW_LENGTH;
 use meaning::Refusal;
 ghost use mathlib.Core.Path.{_≡_};
 ghost use mathlib.Core.List.{map};
 ghost use Prim.Native.Nat.{_+_, _*_, _≤_};
 ghost use lib.ListN.{length};
 ghost use Rattle.meaning.specs.Basics.{over, after};
-ghost use Rattle.meaning.specs.Graph.{rowLength, rowAt, rows};
-ghost use Rattle.meaning.specs.Widths.{extraBits, rowWidth, outputWidth};
+ghost use Rattle.meaning.specs.Graph.{rowLength, rows};
+ghost use Rattle.meaning.specs.Widths.{rowWidth, outputWidth};
 ghost use Rattle.meaning.specs.Refusals.{Done, measured, widthsWritten};
-
-// The least e with 2^e at least value.
-pub fn extra_bits(value: u32) -> u32
-    ensures { λ e. ⌜ e ≡ extraBits value ⌝ }
-{
-    if value == 0 {
-        return 0;
-    }
-    32 - u32::leading_zeros(value - 1)
-}
-
-// The width of the row after i rows.
-pub fn row_width(words: &[u32], i: usize, input: u32) -> u32
-    requires { ⌜ (input ≤ 32) × (rowLength * (i + 1) ≤ length (now words)) ⌝ }
-    ensures { λ r. ⌜ r ≡ rowWidth input (rowAt (now (words .entry)) (rowLength * i)) ⌝ }
-{
-    let value = words[ROW_LENGTH * i + 6];
-    input + extra_bits(value)
-}
-
-// The width of a target's output.
-pub fn output_width(t: i32, input: u32) -> u32
-    requires { ⌜ input ≤ 32 ⌝ }
-    ensures { λ r. ⌜ r ≡ outputWidth input t ⌝ }
-{
-    let m = numbers::magnitude(t);
-    if m == 0 {
-        return 1;
-    }
-    input + extra_bits(m)
-}
 
 // The rows' widths, in row order, from the front.
 fn row_widths(words: &[u32], n: usize, input: u32, out: &mut [u32])
@@ -49,7 +17,7 @@ fn row_widths(words: &[u32], n: usize, input: u32, out: &mut [u32])
 {
     let mut i = 0;
     while i < n {
-        out[i] = row_width(words, i, input);
+        out[i] = bits::row_width(words, i, input);
         i += 1;
     }
 }
@@ -62,7 +30,7 @@ fn output_widths(ts: &[i32], input: u32, from: usize, out: &mut [u32])
     let mut i = 0;
     while i < ts.len() {
         let t = ts[i];
-        out[from + i] = output_width(t, input);
+        out[from + i] = bits::output_width(t, input);
         i += 1;
     }
 }

@@ -9,7 +9,7 @@ use native.Mathlib.Omega.{arith}
 use lib.Dec.{ltb}
 use lib.IntN.{ℤ, pos, negsuc, natAbs}
 use lib.ListN.{length, take, drop, set, getD, length-append}
-use lib.Seq.{sets, sets-eq, length-sets, take-append-seam, paste, paste-suc, take-length}
+use lib.Seq.{sets, sets-eq, length-sets, paste, paste-suc, take-length}
 use lib.Signed.{ltZ}
 use borrow.Author.Tests.{ltb-true, ltb-false}
 use Rattle.meaning.specs.Text.{decimalIn, unsignedText, textOf}
@@ -50,9 +50,6 @@ kept {m} {a} {b} {d} {e} {t} p = ap length (p .stored) ∙ length-sets d a t
 pub still : {m a b : ℕ} {d e t : List ℕ} (n : ℕ) → Wrote m d a t e b → a + (m + n) ≤ length d → b + n ≤ length e
 still n p h = let k = kept p in let i = p .place in let g = p .size in omega arith
 
-pub fits : {m a b : ℕ} {d e t : List ℕ} (n q : ℕ) → q ≤ n → Wrote m d a t e b → a + (m + n) ≤ length d → b + q ≤ length e
-fits n q l p h = let k = kept p in let i = p .place in let g = p .size in omega arith
-
 -- ---- loops of lines: k of them so far, none longer than s
 
 pub nothing : (d : List ℕ) (a : ℕ) → Wrote 0 d a [] d a
@@ -62,15 +59,6 @@ pub more : {a b c : ℕ} {d e g t u : List ℕ} (s k : ℕ) → Wrote (s * k) d 
 more s k p q =
     let h : s * (k + 1) ≡ s * k + s = ap (λ (x : ℕ). s * x) (add-one k) ∙ mul-suc s k in
     rw h (p ⨾ q)
-
--- from the front of a buffer that holds it all, the text itself
-pub front-text : {m a b : ℕ} {d e t : List ℕ} → a ≡ 0 → Wrote m d a t e b → a + m ≤ length d → take b e ≡ t
-front-text {m} {a} {b} {d} {e} {t} z p h =
-    let g = p .size in let i = p .place in
-    let k : a + length t ≤ length d = omega arith in
-    let q : b ≡ length t = omega arith in
-    let s : e ≡ t ++ drop (a + length t) d = p .stored ∙ sets-eq t d a k ∙ ap (λ (x : ℕ). take x d ++ t ++ drop (a + length t) d) z in
-    ap (λ (x : ℕ). take x e) q ∙ ap (λ (l : List ℕ). take (length t) l) s ∙ take-append-seam t (drop (a + length t) d)
 
 -- ---- a text, byte by byte
 

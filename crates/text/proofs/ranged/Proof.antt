@@ -15,7 +15,9 @@ use Rattle.text.proofs.ranged.Statement.{statement}
 use Rattle.text.proofs.ranged.Tie as tie
 
 returns : tie.Need-returns
-returns c = simp (c .before .if1 .taken, eq-eqb _ _ (c .if2 .taken))
+returns c =
+    let none : c .before .before .args .v ≡ 0 = omega (arith, c .if2 .taken) in
+    simp (c .before .if1 .taken, eq-eqb _ _ none)
 
 sub-t6 : tie.Need-sub-t6
 sub-t6 c = search needs

@@ -1,17 +1,16 @@
 -- `measure` meets its contract: as check, then 9, then 4; the rows' widths and then the outputs' over the front. Assumes nothing.
 use mathlib.Core.Path.{_≡_, refl, sym, ap, _∙_}
-use mathlib.Core.Bool.{Bool, true, false}
-use mathlib.Core.List.{List, [], _∷_, _++_, map}
-use Prim.Native.Nat.{ℕ, _+_, _*_, _≤_}
+use mathlib.Core.Bool.{Bool}
+use mathlib.Core.List.{List, [], _∷_, map}
+use Prim.Native.Nat.{ℕ, _+_}
 use native.Mathlib.Omega.{arith}
 use borrow.Author.Needs.{needs}
 use borrow.Author.Tests.{le-leb, lt-leb}
 use lib.Dec.{leb}
 use lib.ListN.{length, length-map}
-use Rattle.meaning.specs.declared.Answer.the-variants.{Accepted}
 use Rattle.meaning.specs.declared.Refusal.the-variants as no
 use Rattle.meaning.specs.Basics.{after}
-use Rattle.meaning.specs.Graph.{rowLength, rows}
+use Rattle.meaning.specs.Graph.{rows}
 use Rattle.meaning.specs.Widths.{rowWidth, outputWidth, widths}
 use Rattle.meaning.specs.Refusals.{sizedOrder, buffer, sized, measured, widthsWritten, firstOf}
 use Rattle.laws.proofs.Graphs.{length-rows}

@@ -1,12 +1,12 @@
 -- `row_widths` meets its contract. The loop's invariant: the widths of the rows passed stand over the front. Assumes nothing.
-use mathlib.Core.Path.{_≡_, refl, sym, ap, ap₂, _∙_}
-use mathlib.Core.List.{List, map}
-use Prim.Native.Nat.{ℕ, _+_, _*_, _-_, _≤_, _<_}
+use mathlib.Core.Path.{_≡_, refl, ap, ap₂, _∙_}
+use mathlib.Core.List.{map}
+use Prim.Native.Nat.{_-_, _≤_}
 use native.Mathlib.Omega.{arith}
 use borrow.Author.Needs.{needs}
 use lib.ListN.{length, set, length-set}
 use Rattle.meaning.specs.Basics.{over}
-use Rattle.meaning.specs.Graph.{rowLength, rowAt, rows}
+use Rattle.meaning.specs.Graph.{rows}
 use Rattle.meaning.specs.Widths.{rowWidth}
 use Rattle.laws.proofs.Over.{over-rows}
 use Rattle.widths.proofs.row_widths.Statement.{statement}

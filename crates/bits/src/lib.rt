@@ -1,0 +1,38 @@
+// How many bits a value, a row and an output take.
+use meaning::ROW_LENGTH;
+ghost use mathlib.Core.Path.{_≡_};
+ghost use Prim.Native.Nat.{_+_, _*_, _≤_};
+ghost use lib.ListN.{length};
+ghost use Rattle.meaning.specs.Graph.{rowLength, rowAt};
+ghost use Rattle.meaning.specs.Widths.{extraBits, rowWidth, outputWidth};
+
+// The least e with 2^e at least value.
+pub fn extra_bits(value: u32) -> u32
+    ensures { λ e. ⌜ e ≡ extraBits value ⌝ }
+{
+    if value == 0 {
+        return 0;
+    }
+    32 - u32::leading_zeros(value - 1)
+}
+
+// The width of the row after i rows.
+pub fn row_width(words: &[u32], i: usize, input: u32) -> u32
+    requires { ⌜ (input ≤ 32) × (rowLength * (i + 1) ≤ length (now words)) ⌝ }
+    ensures { λ r. ⌜ r ≡ rowWidth input (rowAt (now (words .entry)) (rowLength * i)) ⌝ }
+{
+    let value = words[ROW_LENGTH * i + 6];
+    input + extra_bits(value)
+}
+
+// The width of a target's output.
+pub fn output_width(t: i32, input: u32) -> u32
+    requires { ⌜ input ≤ 32 ⌝ }
+    ensures { λ r. ⌜ r ≡ outputWidth input t ⌝ }
+{
+    let m = numbers::magnitude(t);
+    if m == 0 {
+        return 1;
+    }
+    input + extra_bits(m)
+}
