@@ -22,20 +22,6 @@ fn fill(map: &mut [u8], top: u32, vals: &[u32])
     }
 }
 
-// c is in the list.
-fn listed(vals: &[u32], c: u32) -> bool
-    ensures { λ r. ⌜ r ≡ has (now (vals .entry)) c ⌝ }
-{
-    let mut i = 0;
-    while i < vals.len() {
-        if vals[i] == c {
-            return true;
-        }
-        i += 1;
-    }
-    false
-}
-
 // One operation, two, or more, by a map of zeros.
 fn beyond_by(map: &mut [u8], top: u32, vals: &[u32], c: u32) -> Far
     requires { ⌜ State top (now map) (now vals) 0 × Ready top (now vals) (length (now vals)) × Odd top c
@@ -74,7 +60,7 @@ pub fn distance(b: u32, vals: &[u32], c: u32) -> Far
     if let Answer::Refused(why) = answer {
         return Far::Refused(why);
     }
-    if listed(vals, c) {
+    if ready::has(vals, vals.len(), c) {
         return Far::Zero;
     }
     beyond_zero(b + 1, vals, c)

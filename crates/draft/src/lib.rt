@@ -39,7 +39,7 @@ fn add_prefix(map: &mut [u8], top: u32, set: Ready, out: &mut [u32], p: Prefix) 
     requires { ⌜ Open top set (now map) (now out) (length (prefixRows (listed set) p)) × Odd top (p .value) ⌝ }
     ensures { λ r. ⌜ Grown top set (prefixRows (listed set) p) r (now (map .exit)) (now (out .entry)) (now (out .exit)) ⌝ }
 {
-    if set.has(p.value) {
+    if ready::has(&set.values, set.count, p.value) {
         return set;
     }
     let x = Row {

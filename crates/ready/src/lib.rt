@@ -1,8 +1,9 @@
 // The ready set by value: the values that a graph's indices have, in order, the input's 1 first.
 ghost use mathlib.Core.Path.{_≡_};
 ghost use Prim.Native.Nat.{min};
+ghost use lib.ListN.{take};
 ghost use Rattle.meaning.specs.Basics.{has as Basics·has, indexFrom};
-ghost use Rattle.ready.specs.Listed.{room, listed, Started, Added};
+ghost use Rattle.ready.specs.Listed.{listed, Started, Added};
 
 // As many values as 128 rows and the input have; the places from `count` on hold no value of the set.
 pub struct Ready {
@@ -11,13 +12,28 @@ pub struct Ready {
 }
 
 // A count above the places is taken for all of them.
-fn held(count: usize) -> usize
-    ensures { λ r. ⌜ r ≡ min count room ⌝ }
+fn held(count: usize, places: usize) -> usize
+    ensures { λ r. ⌜ r ≡ min count places ⌝ }
 {
-    if 129 < count {
-        return 129;
+    if places < count {
+        return places;
     }
     count
+}
+
+// v is one of the first so many values. They are lent: a copy of the set for each question takes longer than the search.
+pub fn has(values: &[u32], count: usize, v: u32) -> bool
+    ensures { λ r. ⌜ r ≡ Basics·has (take count (now (values .entry))) v ⌝ }
+{
+    let n = held(count, values.len());
+    let mut i = 0;
+    while i < n {
+        if values[i] == v {
+            return true;
+        }
+        i += 1;
+    }
+    false
 }
 
 impl Ready {
@@ -43,25 +59,11 @@ impl Ready {
         self
     }
 
-    pub fn has(self, v: u32) -> bool
-        ensures { λ r. ⌜ r ≡ Basics·has (listed self) v ⌝ }
-    {
-        let n = held(self.count);
-        let mut i = 0;
-        while i < n {
-            if self.values[i] == v {
-                return true;
-            }
-            i += 1;
-        }
-        false
-    }
-
     // The lowest index of v, 0 where none has it.
     pub fn index_of(self, v: u32) -> u32
         ensures { λ r. ⌜ r ≡ indexFrom 0 (listed self) v ⌝ }
     {
-        let n = held(self.count);
+        let n = held(self.count, 129);
         let mut i = 0;
         while i < n {
             if self.values[i] == v {

@@ -1,12 +1,13 @@
 -- `distance` meets its contract: the refusal, or the distance under the limit. What is not refused has odd values below 2^(b+1) and an odd target
 -- below 2^b, and b at most 16, as `beyond_zero` asks. Assumes nothing.
-use mathlib.Core.Path.{_≡_, sym, _∙_}
-use mathlib.Core.Bool.{true}
+use mathlib.Core.Path.{_≡_, sym, ap, _∙_}
+use mathlib.Core.Bool.{Bool, true}
 use mathlib.Core.List.{List}
 use Prim.Native.Nat.{ℕ, _+_, _^_, _≤_}
 use native.Mathlib.Omega.{arith}
 use borrow.Author.Needs.{needs}
-use lib.ListN.{length}
+use lib.ListN.{length, take}
+use lib.Seq.{take-length}
 use lib.Pow.{pow-mono}
 use Rattle.meaning.specs.declared.Far.the-variants.{Zero}
 use Rattle.meaning.specs.Basics.{has}
@@ -25,6 +26,10 @@ ready b vals c q = (omega arith, λ i h. q .values _ (getD-in vals i 0 h))
 zero-is : (L : ℕ) (vals : List ℕ) (c : ℕ) → has vals c ≡ true → Zero ≡ distance L vals c
 unfolding distance
 zero-is L vals c e = rw e
+
+-- what is asked of the first so many is asked of all
+found : (r : Bool) (vals : List ℕ) (c : ℕ) → r ≡ has (take (length vals) vals) c → has vals c ≡ r
+found r vals c e = sym (e ∙ ap (λ (xs : List ℕ). has xs c) (take-length vals))
 
 -- past the refusals
 asked : (c : tie.After-enum-told) → let a = c .before .before .before .before .args in Askable (a .b) (a .vals .now) (a .c)
@@ -48,14 +53,14 @@ returns c =
 enum-told : tie.Need-enum-told
 enum-told c = search needs
 
-listed-requires : tie.Need-listed-requires
-listed-requires c κs = search needs
+has-requires : tie.Need-has-requires
+has-requires c κs = search needs
 
 returns-2 : tie.Need-returns-2
 returns-2 c =
     let t = c .before .before in
     let a = t .before .before .before .before .args in
-    zero-is (limit (a .b)) (a .vals .now) (a .c) (sym (c .before .listed .ensures) ∙ c .if1 .taken) ∙ sym (told t)
+    zero-is (limit (a .b)) (a .vals .now) (a .c) (found _ (a .vals .now) (a .c) (c .before .has .ensures) ∙ c .if1 .taken) ∙ sym (told t)
 
 add-beyond-zero : tie.Need-add-beyond-zero
 add-beyond-zero c = let q = asked (c .before .before) .bits in omega arith
@@ -69,7 +74,7 @@ beyond-zero-requires c κs =
       omega (arith, q .bits),
       ready (a .b) (a .vals .now) (a .c) q,
       (q .target .0, omega (arith, q .target .1)),
-      sym (c .before .listed .ensures) ∙ c .if1 .left,
+      found _ (a .vals .now) (a .c) (c .before .has .ensures) ∙ c .if1 .left,
     )
 
 returns-3 : tie.Need-returns-3
@@ -83,7 +88,7 @@ distance-spec =
     enum-known-answer
     returns
     enum-told
-    listed-requires
+    has-requires
     returns-2
     add-beyond-zero
     beyond-zero-requires

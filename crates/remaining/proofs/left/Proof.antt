@@ -22,7 +22,7 @@ abbrev μ-loop : tie.MeasureT-loop
 μ-loop set w r₀ i₀ r i = w .count - i
 
 loop-holds : tie.Need-loop-holds Inv-loop μ-loop
-loop-holds c = (omega arith, sift-start (listed (c .args .set)) (kept (c .args .t2)))
+loop-holds c = (omega arith, sift-start (listed (c .args .t1)) (kept (c .args .t2)))
 
 mul-c : tie.Need-mul-c Inv-loop μ-loop
 mul-c c = search needs
@@ -50,11 +50,11 @@ loop-less c = search needs
 
 loop-again : tie.Need-loop-again Inv-loop μ-loop
 loop-again c =
-    let s = c .before .before .before .before in
+    let s = c .before .before .before .before .before .before .before in
     let a = s .before .args in
-    let vals = listed (a .set) in
+    let vals = listed (a .t1) in
     let cs = kept (a .t2) in
-    let h = c .before .before .before .loop-test .taken in
+    let h = c .before .before .before .before .before .before .loop-test .taken in
     let p : length (a .t2 .values) ≡ 16 = search needs in
     let l = kept-inside (a .t2) (s .loop .i) p (s .before .pre) h in
     let g = kept-at (a .t2) (s .loop .i) h in
@@ -71,7 +71,7 @@ returns : tie.Need-returns Inv-loop μ-loop
 returns c =
     let s = c .before in
     let a = s .before .args in
-    sift-end (listed (a .set)) (kept (a .t2)) (s .loop .r) (s .loop .i) (s .loop .inv .1) (kept-end (a .t2) (s .loop .i) (c .loop-test .left)) (omega arith)
+    sift-end (listed (a .t1)) (kept (a .t2)) (s .loop .r) (s .loop .i) (s .loop .inv .1) (kept-end (a .t2) (s .loop .i) (c .loop-test .left)) (omega arith)
 
 pub left-spec : {M : Type 1} → statement M
 left-spec =
