@@ -1,4 +1,5 @@
 -- `reached` meets its contract: it reads the byte of c. Assumes nothing.
+use mathlib.Core.Path.{refl}
 use borrow.Author.Needs.{needs}
 use Rattle.reach.specs.Marks.{marked}
 use Rattle.reach.proofs.reached.Statement.{statement}
@@ -12,7 +13,7 @@ shared-slice-read-result c = search needs
 
 returns : tie.Need-returns
 unfolding marked
-returns c = search needs
+returns c = refl
 
 pub reached-spec : {M : Type 1} → statement M
 reached-spec = tie.close (tie.spec cast-at shared-slice-read-result returns)

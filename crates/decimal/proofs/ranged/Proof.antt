@@ -11,8 +11,8 @@ use borrow.Author.Tests.{eq-eqb, ne-eqb, le-leb, lt-leb, lt-ltb, le-ltb}
 use Rattle.meaning.specs.declared.Read.the-variants.{Number}
 use Rattle.meaning.specs.Text.{ranged}
 use borrow.Author.Needs.{needs}
-use Rattle.text.proofs.ranged.Statement.{statement}
-use Rattle.text.proofs.ranged.Tie as tie
+use Rattle.decimal.proofs.ranged.Statement.{statement}
+use Rattle.decimal.proofs.ranged.Tie as tie
 
 returns : tie.Need-returns
 returns c =

@@ -6,8 +6,8 @@ use lib.ListN.{length, drop}
 use borrow.Author.Tests.{not-true, not-false}
 use Rattle.meaning.specs.Text.{span}
 use Rattle.laws.proofs.Numerals.{span-more, span-stop, span-end}
-use Rattle.text.proofs.digits_end.Statement.{statement}
-use Rattle.text.proofs.digits_end.Tie as tie
+use Rattle.decimal.proofs.digits_end.Statement.{statement}
+use Rattle.decimal.proofs.digits_end.Tie as tie
 
 abbrev Inv-loop : tie.InvT-loop
 Inv-loop s from i₀ i =

@@ -2,8 +2,8 @@
 use mathlib.Core.Path.{_∙_, sym}
 use Rattle.laws.proofs.Numerals.{number-minus, number-plain, number-none}
 use borrow.Author.Needs.{needs}
-use Rattle.text.proofs.number.Statement.{statement}
-use Rattle.text.proofs.number.Tie as tie
+use Rattle.decimal.proofs.number.Statement.{statement}
+use Rattle.decimal.proofs.number.Tie as tie
 
 shared-slice-read-if2 : tie.Need-shared-slice-read-if2
 shared-slice-read-if2 c = search needs

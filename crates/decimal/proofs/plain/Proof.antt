@@ -1,7 +1,7 @@
 -- `plain` meets its contract. Assumes nothing.
 use borrow.Author.Tests.{eq-eqb, ne-eqb}
-use Rattle.text.proofs.plain.Statement.{statement}
-use Rattle.text.proofs.plain.Tie as tie
+use Rattle.decimal.proofs.plain.Statement.{statement}
+use Rattle.decimal.proofs.plain.Tie as tie
 
 returns : tie.Need-returns
 returns c = simp (eq-eqb _ _ (c .if1 .taken))

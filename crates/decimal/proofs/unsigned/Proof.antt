@@ -8,8 +8,8 @@ use borrow.Author.Tests.{not-true, not-false}
 use Rattle.meaning.specs.Text.{span, valueOf, plain?, ranged}
 use Rattle.laws.proofs.Numerals.{unsigned-none, unsigned-bad, unsigned-good, unsigned-long}
 use borrow.Author.Needs.{needs}
-use Rattle.text.proofs.unsigned.Statement.{statement}
-use Rattle.text.proofs.unsigned.Tie as tie
+use Rattle.decimal.proofs.unsigned.Statement.{statement}
+use Rattle.decimal.proofs.unsigned.Tie as tie
 
 -- the run's length is what the definition counts
 count : (c : tie.After-digits-end)

@@ -1,7 +1,7 @@
 -- `is_digit` meets its contract. Assumes nothing.
 use borrow.Author.Tests.{lt-ltb, le-ltb}
-use Rattle.text.proofs.is_digit.Statement.{statement}
-use Rattle.text.proofs.is_digit.Tie as tie
+use Rattle.decimal.proofs.is_digit.Statement.{statement}
+use Rattle.decimal.proofs.is_digit.Tie as tie
 
 returns : tie.Need-returns
 returns c = simp (lt-ltb _ _ (c .if1 .taken))

@@ -7,8 +7,8 @@ use native.Mathlib.Omega.{arith}
 use lib.ListN.{drop, take, getD}
 use Rattle.meaning.specs.Text.{span, valueOf}
 use Rattle.laws.proofs.Numerals.{span-digit, span-more, digit-range, value-more, value-end}
-use Rattle.text.proofs.value_of.Statement.{statement}
-use Rattle.text.proofs.value_of.Tie as tie
+use Rattle.decimal.proofs.value_of.Statement.{statement}
+use Rattle.decimal.proofs.value_of.Tie as tie
 
 abbrev Inv-loop : tie.InvT-loop
 Inv-loop s from to v₀ i₀ v i =
