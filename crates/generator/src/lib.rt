@@ -7,7 +7,7 @@ use ready::Ready;
 use wanted::Wanted;
 ghost use mathlib.Core.Path.{_≡_};
 ghost use mathlib.Core.List.{[]};
-ghost use Prim.Native.Nat.{_+_, _*_, _/_, _≤_, _<_};
+ghost use Prim.Native.Nat.{_+_, _*_, _≤_, _<_};
 ghost use lib.ListN.{length};
 ghost use Rattle.wanted.specs.Held.{kept};
 ghost use Rattle.meaning.specs.declared.Answer.the-variants.{Accepted};

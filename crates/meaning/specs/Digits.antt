@@ -1,7 +1,7 @@
 -- The canonic signed-digit form, its prefixes, and condition 3's sum. Assumes nothing.
 use mathlib.Core.Path.{_≡_}
-use mathlib.Core.Bool.{Bool, true, false, cond}
-use mathlib.Core.List.{List, [], _∷_, _++_, reverse}
+use mathlib.Core.Bool.{cond}
+use mathlib.Core.List.{List, [], _∷_, reverse}
 use Prim.Native.Nat.{ℕ, zero, suc, _+_, _-_, _*_, _/_, _%_, _^_, _≤_}
 use lib.Dec.{eqb}
 use lib.IntN.{ℤ, pos, negsuc, _+ℤ_, _*ℤ_}

@@ -1,6 +1,6 @@
 -- Distance: how many operations make a constant from a list of values. Assumes nothing.
-use mathlib.Core.Bool.{Bool, true, false, _&&_, _||_, cond}
-use mathlib.Core.List.{List, [], _∷_, _++_, map, List·Memᴰ}
+use mathlib.Core.Bool.{Bool, _&&_, _||_, cond}
+use mathlib.Core.List.{List, _∷_, _++_, map, List·Memᴰ}
 use Prim.Native.Nat.{ℕ, _+_, _-_, _*_, _^_}
 use Rattle.meaning.specs.declared.Far.{Far}
 use Rattle.meaning.specs.declared.Far.the-variants.{Zero, One, Two, Beyond}

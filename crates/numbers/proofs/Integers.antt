@@ -4,9 +4,9 @@ use mathlib.Core.Bool.{Bool, true, false, cond}
 use Prim.Native.Nat.{ℕ, zero, suc, _+_, _-_, _*_, _/_, _^_, _≤_, _<_}
 use native.Mathlib.Nat.{zero-div, mul-div-left, not-suc-le-zero, div-le-self, le-trans, le-of-eq}
 use native.Mathlib.Omega.{arith}
-use borrow.Author.Tests.{ltb-true, ltb-false}
+use borrow.Author.Tests.{ltb-true}
 use lib.Dec.{T, ltb}
-use lib.IntN.{ℤ, pos, negsuc, negℤ, sucℤ, predℤ, natAbs, subℕ, +ℤ-one, _+ℤ_, _-ℤ_, _*ℤ_, +ℤ-idl, +ℤ-assoc, +ℤ-comm, sucℤ-+ℤ, predℤ-+ℤ, sucℤ-*ℤ, predℤ-*ℤ, zero-*ℤ, negℤ-sucℤ, negℤ-predℤ, negℤ-+ℤ, negℤ-negℤ, *ℤ-comm}
+use lib.IntN.{ℤ, pos, negsuc, negℤ, sucℤ, predℤ, natAbs, subℕ, +ℤ-one, _+ℤ_, _-ℤ_, _*ℤ_, +ℤ-idl, +ℤ-assoc, +ℤ-comm, sucℤ-+ℤ, predℤ-+ℤ, sucℤ-*ℤ, predℤ-*ℤ, zero-*ℤ, negℤ-sucℤ, negℤ-predℤ, negℤ-+ℤ, negℤ-negℤ}
 use lib.Signed.{quotZ, ltZ, mag, nonNeg}
 use mir.Syntax.{w64}
 use mir.Val.{SFits, Fits}

@@ -1,9 +1,8 @@
 -- Condition 2 holds. Assumes nothing.
-use mathlib.Core.Path.{_≡_, refl, sym, ap, ap₂, _∙_, subst, subst₂, subst⁻¹}
-use mathlib.Core.Bool.{Bool, true, false, _||_}
-use mathlib.Core.List.{List, [], _∷_, _++_, map, append-assoc, append-nil, List·Memᴰ, List·Memᴰ·head, List·Memᴰ·tail, List·Permᴰ}
+use mathlib.Core.Path.{_≡_, refl, sym, ap, _∙_, subst, subst₂, subst⁻¹}
+use mathlib.Core.List.{List, [], _∷_, _++_, map, append-assoc, List·Memᴰ, List·Permᴰ}
 use mathlib.Core.Logic.{_⊎_, inl, inr, ⊎-elim, _↔_}
-use Prim.Native.Nat.{ℕ, zero, suc, _+_, _-_, _*_, _/_, _%_, _^_, _≤_, _<_, min}
+use Prim.Native.Nat.{ℕ, zero, suc, _+_, _-_, _*_, _%_, _≤_, _<_, min}
 use native.Mathlib.Omega.{arith}
 use lib.Dec.{T, leb, eqb, leb→le, le→leb, eqb→eq, eqb-refl}
 use lib.IntN.{ℤ, _*ℤ_}
@@ -14,19 +13,19 @@ use Rattle.meaning.specs.Basics.{has, upFrom}
 use Rattle.meaning.specs.Limits.{limit}
 use Rattle.meaning.specs.Constants.{oddOf}
 use Rattle.meaning.specs.Operation.{whole, size, Valid}
-use Rattle.meaning.specs.Graph.{rowLength, rowAt, rows, values, ready, Fits, Sound, served?}
+use Rattle.meaning.specs.Graph.{rowLength, rowAt, rows, values, Sound, served?}
 use Rattle.meaning.specs.Products.{targetProduct, targetProducts}
 use Rattle.meaning.specs.Widths.{ranking, InOrder}
 use Rattle.meaning.specs.Refusals.{mostRows, checkOrder, productsOrder, admitted, checked, sized, multiplied, productsWritten, given}
 use Rattle.laws.proofs.Tests.{any-in, in-any, either-of, of-left, of-right, in-every}
-use Rattle.laws.proofs.Operations.{size-is, Exact, exact-of, outcome-of}
+use Rattle.laws.proofs.Operations.{size-is, exact-of, outcome-of}
 use Rattle.laws.proofs.Graphs.{length-rows, sound-odd}
 use Rattle.laws.proofs.Stages.{first-accepts, all-accept}
 use Rattle.laws.proofs.Checked.{admitted-of, good-of, of-good, sized-of}
 use Rattle.laws.proofs.Products.{products-are, target-product, target-products}
 use Rattle.laws.proofs.Fewest.{row-fewest, shifted-fewest, output-fewest}
 use Rattle.laws.proofs.Ranking.{ranking-permutes, ranking-ordered}
-use Rattle.tender.specs.Condition2.{AOperation, row, valueAt, ValidRow, EveryRowValid, EveryConstantMade, widthOf, Condition2}
+use Rattle.tender.specs.Condition2.{AOperation, EveryRowValid, EveryConstantMade, widthOf, Condition2}
 
 -- ---- the operation
 

@@ -12,7 +12,7 @@ use Rattle.meaning.specs.Constants.{signOf, oddOf}
 use Rattle.meaning.specs.Operation.{whole}
 use Rattle.meaning.specs.Graph.{rowLength, rowAt, rows, values, ready}
 use Rattle.meaning.specs.Products.{products, targetProduct}
-use Rattle.meaning.specs.Widths.{Fewest, rowWidth, outputWidth, ranking, Before, InOrder}
+use Rattle.meaning.specs.Widths.{Fewest, rowWidth, outputWidth, ranking, InOrder}
 use Rattle.meaning.specs.Refusals.{mostRows, admitted, checked, sized, multiplied, productsWritten}
 
 -- Voronenko and Püschel's A-operation (document 004, definition 2.1 with the constraints for odd values): c is |2^l1 u + (-1)^s 2^l2 v| / 2^r, with at

@@ -3,13 +3,9 @@ use mathlib.Core.Path.{_≡_}
 use mathlib.Core.List.{List, [], _∷_}
 use Prim.Native.Nat.{ℕ}
 use lib.IntN.{ℤ, pos, negℤ}
-use lib.ListN.{getD}
-use Rattle.meaning.specs.declared.Answer.{Answer}
 use Rattle.meaning.specs.declared.Answer.the-variants.{Accepted, Refused}
-use Rattle.meaning.specs.declared.Far.{Far}
 use Rattle.meaning.specs.declared.Far.the-variants.{Zero, One, Two, Beyond}
 use Rattle.meaning.specs.declared.Operated.the-variants.{Made}
-use Rattle.meaning.specs.declared.Parts.{Parts}
 use Rattle.meaning.specs.declared.Refusal.the-variants.{OddPart}
 use Rattle.meaning.specs.declared.Row.{Row}
 use Rattle.meaning.specs.Limits.{limit}

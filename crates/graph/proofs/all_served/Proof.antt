@@ -1,19 +1,19 @@
 -- `all_served` meets its contract. The loop's invariant: the answer for the list is the answer for what is left of it. Assumes nothing.
 use mathlib.Core.Path.{_≡_, refl, sym, ap, _∙_}
-use mathlib.Core.Bool.{Bool, true, false, _||_}
-use Prim.Native.Nat.{ℕ, _+_, _-_, _≤_, _<_}
+use mathlib.Core.Bool.{_||_}
+use Prim.Native.Nat.{_+_, _-_, _≤_}
 use native.Mathlib.Omega.{arith}
 use borrow.Author.Needs.{needs}
 use borrow.Author.Tests.{not-true, not-false}
 use lib.Dec.{leb}
-use lib.IntN.{ℤ, pos}
+use lib.IntN.{pos}
 use lib.ListN.{length, drop, getD}
 use mir.Syntax.{w32}
 use mir.ValLaws.{toZ-ofZ}
 use Rattle.meaning.specs.declared.Answer.the-variants.{Refused}
 use Rattle.meaning.specs.declared.Refusal.the-variants.{Unserved}
 use Rattle.meaning.specs.Basics.{has}
-use Rattle.meaning.specs.Constants.{oddOf, apart}
+use Rattle.meaning.specs.Constants.{apart}
 use Rattle.meaning.specs.Graph.{rows, values, served?}
 use Rattle.meaning.specs.Refusals.{needEach, allServed}
 use Rattle.laws.proofs.Walks.{each-miss, each-hit, each-end}

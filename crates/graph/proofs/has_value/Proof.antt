@@ -1,13 +1,12 @@
 -- `has_value` meets its contract. The loop's invariant: the rows passed do not have the value. Assumes nothing.
-use mathlib.Core.Path.{_≡_, refl, sym, ap, _∙_}
-use mathlib.Core.Bool.{Bool, true, false}
+use mathlib.Core.Path.{_≡_, refl, sym, _∙_}
 use mathlib.Core.List.{List}
-use Prim.Native.Nat.{ℕ, _+_, _*_, _-_, _≤_, _<_}
+use Prim.Native.Nat.{ℕ, _-_, _≤_, _<_}
 use native.Mathlib.Omega.{arith}
 use borrow.Author.Needs.{needs}
-use lib.ListN.{length, drop, getD}
+use lib.ListN.{length, drop}
 use Rattle.meaning.specs.Basics.{has}
-use Rattle.meaning.specs.Graph.{rowLength, rows, values}
+use Rattle.meaning.specs.Graph.{rows, values}
 use Rattle.laws.proofs.Graphs.{length-rows, length-values, value-is}
 use Rattle.laws.proofs.Walks.{has-miss, has-hit, has-end}
 use Rattle.graph.proofs.has_value.Statement.{statement}
