@@ -1,41 +1,23 @@
-/* What both C programs share: refusals as codes (include/tauwaage.h), what each call looks at first, the wanted constants,
-   and the rows of a constant's canonic form. */
+/* What the C programs share: refusals as codes (include/tauwaage.h), and what every call on targets looks at first. */
 #include <string.h>
 
 #include "tauwaage.h"
 
 enum { MOST_READY = TAUWAAGE_MOST_READY, MOST_ROWS = TAUWAAGE_MOST_ROWS, MOST_TARGETS = TAUWAAGE_MOST_TARGETS, ROW = TAUWAAGE_ROW_WORDS };
 
-static inline int64_t refusal(int64_t number, size_t place)
+static int64_t refusal(int64_t number, size_t place)
 {
     return -(1000 * number + (int64_t)place);
 }
 
-static inline uint32_t odd_part(int32_t t)
+static uint32_t odd_part(int32_t t)
 {
     uint32_t m = t < 0 ? -(uint32_t)t : (uint32_t)t;
     return m == 0 ? 0 : m >> __builtin_ctz(m);
 }
 
-static inline int odd_below(uint32_t v, uint32_t bits)
-{
-    return v % 2 == 1 && v < 1u << bits;
-}
-
-/* Codes: 0, or a refusal. */
-static inline int64_t admit_distance(uint32_t b, const uint32_t *ready, size_t count, uint32_t target)
-{
-    if (b < 2 || b > 16)
-        return refusal(1, 0);
-    if (count < 1 || count > MOST_READY)
-        return refusal(10, 0);
-    for (size_t i = 0; i < count; i++)
-        if (!odd_below(ready[i], b + 1))
-            return refusal(10, i + 1);
-    return odd_below(target, b) ? 0 : refusal(11, 0);
-}
-
-static inline int64_t admit(uint32_t b, const int32_t *targets, size_t count)
+/* 0, or a refusal. */
+static int64_t admit(uint32_t b, const int32_t *targets, size_t count)
 {
     if (b < 2 || b > 16)
         return refusal(1, 0);
@@ -45,60 +27,4 @@ static inline int64_t admit(uint32_t b, const int32_t *targets, size_t count)
         if (odd_part(targets[i]) >> b)
             return refusal(3, i + 1);
     return 0;
-}
-
-static inline int in(const uint32_t *values, int count, uint32_t v)
-{
-    for (int i = 0; i < count; i++)
-        if (values[i] == v)
-            return 1;
-    return 0;
-}
-
-static inline uint32_t index_of(const uint32_t *values, uint32_t v)
-{
-    uint32_t i = 0;
-    while (values[i] != v)
-        i++;
-    return i;
-}
-
-/* The next row that step C writes for c, of its first prefix in canonic form that is not ready; 0 where all are. c without
-   its last digit has the prefixes before c. */
-static inline int prefix_row(const uint32_t *ready, int count, uint32_t c, uint32_t *row)
-{
-    if (c == 1)
-        return 0;
-    uint32_t s = c % 4 == 3, rest = s ? c + 1 : c - 1, gap = (uint32_t)__builtin_ctz(rest);
-    if (prefix_row(ready, count, rest >> gap, row))
-        return 1;
-    if (in(ready, count, c))
-        return 0;
-    memcpy(row, (uint32_t[]){index_of(ready, rest >> gap), 0, gap, 0, s, 0, c}, ROW * sizeof *row);
-    return 1;
-}
-
-/* The distinct odd parts above 1, ascending. */
-static inline int wanted_of(const int32_t *targets, size_t count, uint32_t *wanted)
-{
-    int n = 0;
-    for (size_t i = 0; i < count; i++) {
-        uint32_t c = odd_part(targets[i]);
-        int at = n;
-        while (at > 0 && wanted[at - 1] >= c)
-            at--;
-        if (c <= 1 || (at < n && wanted[at] == c))
-            continue;
-        memmove(wanted + at + 1, wanted + at, (size_t)(n - at) * sizeof *wanted);
-        wanted[at] = c;
-        n++;
-    }
-    return n;
-}
-
-/* What the generator looks at before it draws. */
-static inline int64_t admit_generate(uint32_t b, const int32_t *targets, size_t count, size_t room)
-{
-    int64_t code = admit(b, targets, count);
-    return code == 0 && room < ROW * MOST_ROWS ? refusal(4, 0) : code;
 }

@@ -1,6 +1,6 @@
 /* The naive search: for each candidate s, every pair of ready values and every shift. No map, and nothing kept from one
    turn to the next. */
-#include "common.h"
+#include "search.h"
 
 typedef struct {
     uint32_t top;
@@ -114,17 +114,4 @@ static int generate(uint32_t b, const uint32_t *wanted, int count, uint32_t *out
     while (turn(&set, out, wanted, count))
         ;
     return set.count - 1;
-}
-
-int64_t tauwaage_distance(uint32_t bits, const uint32_t *ready, size_t ready_len, uint32_t target)
-{
-    int64_t code = admit_distance(bits, ready, ready_len, target);
-    return code ? code : distance(bits, ready, (int)ready_len, target);
-}
-
-int64_t tauwaage_generate(uint32_t bits, const int32_t *targets, size_t targets_len, uint32_t *words, size_t words_len)
-{
-    uint32_t wanted[MOST_TARGETS + 1];
-    int64_t code = admit_generate(bits, targets, targets_len, words_len);
-    return code ? code : generate(bits, wanted, wanted_of(targets, targets_len, wanted), words);
 }

@@ -1,7 +1,7 @@
 /* The generator and the distance in plain C, to hold the library's speed to; the calls on a graph are in graphs.c. The search
    has a byte for each odd number that one operation reaches, kept from row to row; the values that would serve a constant are
    looked up in it, and the smallest is kept. */
-#include "common.h"
+#include "search.h"
 
 enum { PLACES = 65536 };
 
@@ -218,17 +218,4 @@ static int generate(uint32_t b, const uint32_t *wanted, int count, uint32_t *out
     while ((count = without_ready(&set, left, count)) > 0)
         turn(&set, out, left, count);
     return set.count - 1;
-}
-
-int64_t tauwaage_distance(uint32_t bits, const uint32_t *ready, size_t ready_len, uint32_t target)
-{
-    int64_t code = admit_distance(bits, ready, ready_len, target);
-    return code ? code : distance(bits, ready, (int)ready_len, target);
-}
-
-int64_t tauwaage_generate(uint32_t bits, const int32_t *targets, size_t targets_len, uint32_t *words, size_t words_len)
-{
-    uint32_t wanted[MOST_TARGETS + 1];
-    int64_t code = admit_generate(bits, targets, targets_len, words_len);
-    return code ? code : generate(bits, wanted, wanted_of(targets, targets_len, wanted), words);
 }
