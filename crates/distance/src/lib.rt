@@ -1,4 +1,6 @@
 // Distance: how many operations make a target from a ready list.
+mod ready_list;
+
 use meaning::Answer;
 use meaning::Far;
 ghost use mathlib.Core.Path.{_≡_};
@@ -32,7 +34,7 @@ fn beyond_by(map: &mut [u8], top: u32, vals: &[u32], c: u32) -> Far
     if reach::reached(map, c) {
         return Far::One;
     }
-    if serving::served(map, top, vals, vals.len(), c) {
+    if reach::serving::served(map, top, vals, vals.len(), c) {
         return Far::Two;
     }
     Far::Beyond
@@ -60,7 +62,7 @@ pub fn distance(b: u32, vals: &[u32], c: u32) -> Far
     if let Answer::Refused(why) = answer {
         return Far::Refused(why);
     }
-    if ready::has(vals, vals.len(), c) {
+    if reach::ready::has(vals, vals.len(), c) {
         return Far::Zero;
     }
     beyond_zero(b + 1, vals, c)

@@ -21,7 +21,7 @@ use Rattle.meaning.specs.Graph.{rowLength}
 use Rattle.meaning.specs.Refusals.{mostRows, rankingOrder, widthsOrder, ranked, measured, Done}
 use Rattle.meaning.specs.Listing.{textRoom, jobText, printedTold, textWritten}
 use Rattle.laws.proofs.Stages.{first-accepts, need-accepts}
-use Rattle.codes.specs.Codes.{coded}
+use Rattle.exports.specs.Codes.{coded}
 
 -- the code of a refusal, or of acceptance, is that of the answer which was one
 pub refused-coded : (a : Answer) (why : Refusal) (m n : ℕ) → a ≡ Refused why → coded (Refused why) m ≡ coded a n

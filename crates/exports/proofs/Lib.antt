@@ -1,2 +1,4 @@
 -- What the proofs share.
 pub mod Handed
+pub mod Fits
+pub mod CodesLaws

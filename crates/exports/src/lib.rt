@@ -1,12 +1,14 @@
 // The calls for programs in other languages: numbers and slices in, one signed number out (codes/specs/Codes.antt). Slices are
 // lent for the call alone; include/tauwaage.h says the rest.
+mod codes;
+
 use meaning::Answer;
 ghost use mathlib.Core.Path.{_≡_};
 ghost use Prim.Native.Nat.{_+_};
 ghost use lib.ListN.{length};
 ghost use Rattle.meaning.specs.Listing.{printedTold, textWritten};
 ghost use Rattle.meaning.specs.Refusals.{Done, checked, multiplied, productsWritten, measured, widthsWritten, ranked, rankingWritten, drawnTold, rowsWritten, distanceTold};
-ghost use Rattle.codes.specs.Codes.{coded, drawnCode, farCode, printedCode};
+ghost use Rattle.exports.specs.Codes.{coded, drawnCode, farCode, printedCode};
 
 // The rows of the generator's rule over the front of words; answers how many they are.
 #[no_mangle]

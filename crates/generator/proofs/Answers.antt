@@ -24,7 +24,7 @@ use Rattle.laws.proofs.Chain.{prefix-row}
 use Rattle.laws.proofs.Checked.{Admitted}
 use Rattle.laws.proofs.Wanted.{all-wanted}
 use Rattle.laws.proofs.Generated.{drawn-is}
-use Rattle.rule.specs.Rule.{AllServable}
+use Rattle.generator.specs.Rule.{AllServable}
 
 -- ---- the wanted set
 

@@ -1,2 +1,6 @@
 pub mod Turns
 pub mod Answers
+pub mod RuleLaws
+pub mod DraftLaws
+pub mod FirstRowLaws
+pub mod RemainingLaws

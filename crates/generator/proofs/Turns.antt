@@ -9,14 +9,14 @@ use Rattle.meaning.specs.Basics.{over, after}
 use Rattle.meaning.specs.Graph.{rowLength, flat, values, ready}
 use Rattle.meaning.specs.Generator.{remaining, turn, turns}
 use Rattle.meaning.specs.Refusals.{mostRows}
-use Rattle.ready.specs.declared.Ready.{Ready}
-use Rattle.ready.specs.Listed.{listed, Started}
+use Rattle.reach.specs.declared.ready.Ready.{Ready}
+use Rattle.reach.specs.Listed.{listed, Started}
 use Rattle.reach.specs.Marks.{State, Holds, Wide}
-use Rattle.draft.specs.Growth.{Open, Grown}
-use Rattle.draft.proofs.Laws.{grown-none, grown-then, open-on}
+use Rattle.generator.specs.Growth.{Open, Grown}
+use Rattle.generator.proofs.DraftLaws.{grown-none, grown-then, open-on}
 use lib.Pow.{pow-mono}
 use Rattle.meaning.specs.Distance.{reach?}
-use Rattle.ready.proofs.Laws.{list-at}
+use Rattle.reach.proofs.ReadyLaws.{list-at}
 
 -- ---- the input alone
 

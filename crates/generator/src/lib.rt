@@ -1,24 +1,29 @@
 // The generator: while wanted constants remain, a turn of the rule.
+mod draft;
+mod first_row;
+mod remaining;
+mod rule;
+
+use constants::wanted::Wanted;
 use meaning::Answer;
 use meaning::Drawn;
 use meaning::ROW_LENGTH;
 use meaning::Refusal;
-use ready::Ready;
-use wanted::Wanted;
+use reach::ready::Ready;
 ghost use mathlib.Core.Path.{_≡_};
 ghost use mathlib.Core.List.{[]};
 ghost use Prim.Native.Nat.{_+_, _*_, _≤_, _<_};
 ghost use lib.ListN.{length};
-ghost use Rattle.wanted.specs.Held.{kept};
+ghost use Rattle.constants.specs.Held.{kept};
 ghost use Rattle.meaning.specs.declared.Answer.the-variants.{Accepted};
 ghost use Rattle.meaning.specs.Basics.{over};
 ghost use Rattle.meaning.specs.Limits.{limit};
 ghost use Rattle.meaning.specs.Graph.{rowLength, flat};
 ghost use Rattle.meaning.specs.Generator.{turns};
 ghost use Rattle.meaning.specs.Refusals.{mostRows, admitted, Done, drawnTold, rowsWritten};
-ghost use Rattle.ready.specs.Listed.{Started};
+ghost use Rattle.reach.specs.Listed.{Started};
 ghost use Rattle.reach.specs.Marks.{State};
-ghost use Rattle.rule.specs.Rule.{AllServable};
+ghost use Rattle.generator.specs.Rule.{AllServable};
 
 // The input alone.
 fn start(map: &mut [u8], top: u32) -> Ready
@@ -54,7 +59,7 @@ fn rows_by(map: &mut [u8], b: u32, ts: &[i32], out: &mut [u32]) -> Drawn
         (now (out .entry)) (now (out .exit))
         ⌝ }
 {
-    let set = draw(map, b + 1, out, wanted::wanted_of(ts));
+    let set = draw(map, b + 1, out, constants::wanted::wanted_of(ts));
     Drawn::Rows((set.count - 1) as u32)
 }
 

@@ -1,4 +1,6 @@
 // Checks any graph for a list and a bit limit.
+mod valid_row;
+
 use meaning::Answer;
 use meaning::ROW_LENGTH;
 use meaning::Refusal;

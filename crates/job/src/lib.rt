@@ -12,7 +12,7 @@ fn number_line(s: &[u8], at: usize, name: &[u8]) -> Read
     if !text::stands(s, at, name) {
         return Read::Bad;
     }
-    let Read::Number(z, p) = decimal::number(s, at + name.len()) else {
+    let Read::Number(z, p) = text::decimal::number(s, at + name.len()) else {
         return Read::Bad;
     };
     if text::is(s, p, b'\n') {
@@ -75,7 +75,7 @@ fn numbers(s: &[u8], from: usize) -> Targets
     let mut n: usize = 0;
     let mut values = [0i32; 128];
     loop {
-        let Read::Number(z, p) = decimal::number(s, at) else {
+        let Read::Number(z, p) = text::decimal::number(s, at) else {
             return none();
         };
         keep(&mut values, n, z);

@@ -1,4 +1,6 @@
 // The listing of a job, from its lines, written at a place of a lent buffer; each function hands back the place behind its text.
+mod graph_lines;
+
 use writing::put;
 ghost use mathlib.Core.Path.{_≡_};
 ghost use mathlib.Core.List.{[], _∷_};
@@ -10,7 +12,7 @@ ghost use Rattle.meaning.specs.Graph.{rows};
 ghost use Rattle.meaning.specs.Listing.{pieces, reportText, headText, rowTexts, outTexts, textRoom};
 ghost use Rattle.meaning.specs.Refusals.{mostRows};
 ghost use Rattle.writing.specs.Wrote.{Wrote};
-ghost use Rattle.graph_lines.specs.Parts.{Within};
+ghost use Rattle.listing.specs.GraphLinesParts.{Within};
 ghost use Rattle.listing.specs.Parts.{Order};
 
 fn report(out: &mut [u8], at: usize, by_width: bool) -> usize
@@ -36,7 +38,7 @@ fn csd_sum(ts: &[i32]) -> u32
     requires { ⌜ length (now ts) ≤ 16 ⌝ }
     ensures { λ r. ⌜ r ≡ csdSum (wanted (now (ts .entry))) ⌝ }
 {
-    let w = wanted::wanted_of(ts);
+    let w = constants::wanted::wanted_of(ts);
     let mut sum: u32 = 0;
     let mut i = 0;
     while i < w.count {
@@ -60,11 +62,11 @@ fn head(
     ensures { λ r. ⌜ Wrote 99 (now (out .entry)) at
         (headText (record { bits = bits; input = input; byWidth = «by_width»; targets = now (ts .entry) }) n) (now (out .exit)) r ⌝ }
 {
-    let at = lines::signed_line(out, at, b"bits=", bits);
-    let at = lines::signed_line(out, at, b"input=", input);
+    let at = writing::lines::signed_line(out, at, b"bits=", bits);
+    let at = writing::lines::signed_line(out, at, b"input=", input);
     let at = report(out, at, by_width);
-    let at = lines::number_line(out, at, b"adders=", n as u32);
-    lines::number_line(out, at, b"csd=", csd_sum(ts))
+    let at = writing::lines::number_line(out, at, b"adders=", n as u32);
+    writing::lines::number_line(out, at, b"csd=", csd_sum(ts))
 }
 
 // The row lines, in the given order.

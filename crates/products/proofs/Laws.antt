@@ -20,7 +20,7 @@ use Rattle.meaning.specs.Refusals.{checked}
 use Rattle.meaning.specs.Graph.{rowLength, rowAt, rows, ready, served?}
 use Rattle.meaning.specs.Products.{rowProduct, productsFrom, products, targetProduct, targetProducts}
 use Rattle.laws.proofs.Products.{products-more}
-use Rattle.row_product.specs.Worked.{worked, Within}
+use Rattle.products.specs.RowProductWorked.{worked, Within}
 use Rattle.products.specs.Worked.{Next, Graph, targetFrom}
 
 -- ---- a row of a slice

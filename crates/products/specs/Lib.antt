@@ -1,2 +1,3 @@
 -- What the code of the products works by.
 pub mod Worked
+pub mod RowProductWorked

@@ -8,7 +8,7 @@ use Rattle.meaning.specs.declared.Row.{Row}
 use Rattle.meaning.specs.Constants.{signOf, shiftOf}
 use Rattle.meaning.specs.Graph.{rowLength, rowAt, rows, Sound, outputIndex}
 use Rattle.meaning.specs.Products.{products}
-use Rattle.row_product.specs.Worked.{Within}
+use Rattle.products.specs.RowProductWorked.{Within}
 
 -- the row after i rows can be worked from the products of the indices before it
 pub record Next (w : List ℕ) (i : ℕ) (ps : List ℤ) : Type 0 where

@@ -1,3 +1,6 @@
 -- What the map holds.
 pub mod Sides
 pub mod Marks
+pub mod Listed
+pub mod Choices
+pub mod Least

@@ -1,4 +1,7 @@
 // What one operation reaches, kept as a map of bytes, one for each odd number.
+pub mod ready;
+pub mod serving;
+
 ghost use mathlib.Core.Path.{_≡_};
 ghost use mathlib.Core.List.{[], _∷_, _++_};
 ghost use Prim.Native.Nat.{_+_, _/_, _<_};

@@ -1,4 +1,6 @@
 // A job's bytes in, and its listing or the line of its refusal out.
+mod job_listing;
+
 use job::Asks;
 use meaning::Printed;
 use meaning::Refusal;
@@ -19,7 +21,7 @@ pub fn answer(s: &[u8], out: &mut [u8]) -> Printed
     let parsed = job::parse(s);
     let asks = parsed.asks;
     match asks {
-        Asks::Malformed(line) => Printed::Bytes(lines::refused(out, Refusal::Job(line))),
+        Asks::Malformed(line) => Printed::Bytes(writing::lines::refused(out, Refusal::Job(line))),
         Asks::Wants {
             bits,
             input,

@@ -1,4 +1,6 @@
 // Texts in slices of bytes: what stands at a place.
+pub mod decimal;
+
 ghost use mathlib.Core.Path.{_≡_};
 ghost use mathlib.Core.List.{[], _∷_};
 ghost use Rattle.meaning.specs.Text.{stands as Text·stands};

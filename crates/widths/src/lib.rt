@@ -1,4 +1,6 @@
 // Widths: how many bits each row and each output of a graph needs for inputs of a given width.
+pub mod bits;
+
 use meaning::Answer;
 use meaning::Refusal;
 ghost use mathlib.Core.Path.{_≡_};

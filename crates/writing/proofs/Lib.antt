@@ -1,3 +1,4 @@
 -- The laws of writing that the crates above cite.
 pub mod Io
 pub mod Writing
+pub mod LinesLaws

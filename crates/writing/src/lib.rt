@@ -1,4 +1,6 @@
 // Names and numbers written into a lent slice of bytes; each function hands back the place behind its text.
+pub mod lines;
+
 ghost use mathlib.Core.List.{_++_};
 ghost use Prim.Native.Nat.{_+_, _≤_};
 ghost use lib.ListN.{length};

@@ -4,7 +4,7 @@ use borrow.Author.Needs.{needs}
 use mir.Syntax.{w64}
 use mir.Val.{SFits}
 use mir.ValLaws.{toZ-ofZ}
-use Rattle.codes.specs.Codes.{farCode}
+use Rattle.exports.specs.Codes.{farCode}
 use Rattle.exports.proofs.tauwaage_distance.Statement.{statement}
 use Rattle.exports.proofs.tauwaage_distance.Tie as tie
 

@@ -2,7 +2,7 @@
 use borrow.Author.Needs.{needs}
 use mir.Syntax.{w64}
 use mir.Val.{SFits}
-use Rattle.codes.specs.Codes.{drawnCode}
+use Rattle.exports.specs.Codes.{drawnCode}
 use Rattle.exports.proofs.Handed.{handed}
 use Rattle.exports.proofs.tauwaage_generate.Statement.{statement}
 use Rattle.exports.proofs.tauwaage_generate.Tie as tie

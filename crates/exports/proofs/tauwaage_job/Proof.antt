@@ -3,7 +3,7 @@ use native.Mathlib.Omega.{arith}
 use borrow.Author.Needs.{needs}
 use mir.Syntax.{w64}
 use mir.Val.{SFits}
-use Rattle.codes.specs.Codes.{printedCode}
+use Rattle.exports.specs.Codes.{printedCode}
 use Rattle.exports.proofs.Handed.{handed, bytes-within}
 use Rattle.exports.proofs.tauwaage_job.Statement.{statement}
 use Rattle.exports.proofs.tauwaage_job.Tie as tie

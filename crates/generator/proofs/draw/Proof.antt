@@ -9,10 +9,10 @@ use lib.Seq.{length-take-le}
 use Rattle.meaning.specs.Generator.{remaining, turn}
 use Rattle.meaning.specs.Refusals.{mostRows}
 use Rattle.laws.proofs.Remaining.{remaining-in}
-use Rattle.wanted.specs.Held.{kept}
-use Rattle.ready.specs.Listed.{listed}
-use Rattle.draft.specs.Growth.{Open, Grown}
-use Rattle.rule.specs.Rule.{AllServable}
+use Rattle.constants.specs.Held.{kept}
+use Rattle.reach.specs.Listed.{listed}
+use Rattle.generator.specs.Growth.{Open, Grown}
+use Rattle.generator.specs.Rule.{AllServable}
 use Rattle.generator.proofs.Turns.{started-open, Turned, turned-start, turned-open, turned-more, turned-end, from-front}
 use Rattle.generator.proofs.draw.Statement.{statement}
 use Rattle.generator.proofs.draw.Tie as tie

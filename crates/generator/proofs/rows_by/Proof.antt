@@ -15,9 +15,9 @@ use Rattle.meaning.specs.Refusals.{mostRows}
 use Rattle.laws.proofs.Checked.{Admitted, admitted-of}
 use Rattle.laws.proofs.Wanted.{wanted-length}
 use Rattle.laws.proofs.Generated.{few-rows, drawn-accepts}
-use Rattle.wanted.specs.Held.{kept}
-use Rattle.wanted.proofs.Insertion.{held-list, held-count}
-use Rattle.rule.specs.Rule.{AllServable}
+use Rattle.constants.specs.Held.{kept}
+use Rattle.constants.proofs.Insertion.{held-list, held-count}
+use Rattle.generator.specs.Rule.{AllServable}
 use Rattle.generator.proofs.Answers.{all-servable, told-rows, its-turns}
 use Rattle.generator.proofs.rows_by.Statement.{statement}
 use Rattle.generator.proofs.rows_by.Tie as tie

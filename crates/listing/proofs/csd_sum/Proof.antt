@@ -8,7 +8,7 @@ use lib.ListN.{length, getD, drop}
 use Rattle.meaning.specs.Constants.{wanted}
 use Rattle.meaning.specs.Digits.{cost, csdSum}
 use Rattle.laws.proofs.Wanted.{wanted-length}
-use Rattle.wanted.proofs.Insertion.{held-count, held-value}
+use Rattle.constants.proofs.Insertion.{held-count, held-value}
 use Rattle.listing.proofs.Laws.{sum-more, sum-end, wanted-positive}
 use Rattle.listing.proofs.csd_sum.Statement.{statement}
 use Rattle.listing.proofs.csd_sum.Tie as tie

@@ -8,7 +8,7 @@ use lib.ListN.{getD}
 use mir.Syntax.{w64}
 use mir.Val.{SFits, toZ, ofZ}
 use mir.ValLaws.{toZ-ofZ}
-use Rattle.row_product.specs.Worked.{Within}
+use Rattle.products.specs.RowProductWorked.{Within}
 use Rattle.products.proofs.Laws.{next-read, read-of}
 use Rattle.products.proofs.next_product.Statement.{statement}
 use Rattle.products.proofs.next_product.Tie as tie

@@ -1,0 +1,183 @@
+-- How a graph grows: by nothing, by one row, by rows after rows; and that it stays open for more. Assumes nothing.
+use mathlib.Core.Path.{_≡_, refl, sym, ap, _∙_, subst, subst⁻¹}
+use mathlib.Core.Bool.{Bool, true, false}
+use mathlib.Core.List.{List, [], _∷_, _++_, append-nil, append-assoc, map-append}
+use mathlib.Core.Option.{Option, some, none}
+use Prim.Native.Nat.{ℕ, _+_, _-_, _*_, _≤_, _<_}
+use native.Mathlib.Omega.{arith}
+use lib.ListN.{length, length-append, getD, take, drop}
+use Rattle.meaning.specs.declared.Prefix.{Prefix}
+use Rattle.meaning.specs.declared.Row.{Row}
+use Rattle.meaning.specs.Basics.{has, after}
+use Rattle.meaning.specs.Graph.{rowLength, words, flat, values}
+use Rattle.meaning.specs.Distance.{reach?}
+use Rattle.meaning.specs.Generator.{prefixRow, ruleC}
+use Rattle.laws.proofs.Graphs.{length-flat, flat-append}
+use Rattle.laws.proofs.Steps.{rule-c-ready, rule-c-row, rule-c-end}
+use Rattle.laws.proofs.Over.{length-after, after-part, after-none}
+use Rattle.reach.specs.declared.ready.Ready.{Ready}
+use Rattle.reach.specs.Listed.{listed, Added}
+use Rattle.reach.proofs.ReadyLaws.{grown-room}
+use Rattle.reach.specs.Marks.{Holds, Odd, State}
+use Rattle.reach.proofs.Marks.{include-is, one-map}
+use Rattle.generator.specs.Search.{found}
+use Rattle.generator.specs.declared.first_row.Found.the-variants.{At, Missing}
+use Rattle.generator.specs.Growth.{Open, Grown, prefixRows}
+
+-- ---- what was found
+
+pub missing-is : (o : Option Row) → found o ≡ Missing → o ≡ none
+missing-is none e = refl
+missing-is (some x) e = absurd (let z : _≡_ {A = ℕ} 0 1 = cc in omega arith)
+
+pub found-is : (o : Option Row) (x : Row) → found o ≡ At x → o ≡ some x
+found-is none x e = absurd (let z : _≡_ {A = ℕ} 0 1 = cc in omega arith)
+found-is (some y) x e = cc
+
+-- ---- a prefix, ready or not
+
+pub prefix-ready : (vals : List ℕ) (p : Prefix) → has vals (p .value) ≡ true → prefixRows vals p ≡ []
+unfolding prefixRows
+prefix-ready vals p e = rw e
+
+pub prefix-new : (vals : List ℕ) (p : Prefix) → has vals (p .value) ≡ false → prefixRows vals p ≡ prefixRow vals p ∷ []
+unfolding prefixRows
+prefix-new vals p e = rw e
+
+-- ---- growth
+
+pub grown-none : {L : ℕ} {set : Ready} {map out : List ℕ} (n : ℕ) → Open L set map out n → Grown L set [] set map out out
+unfolding flat
+grown-none {L} {set} {map} {out} n o =
+    record {
+      fit = o .fit;
+      state = o .state;
+      count = omega arith;
+      lists = sym (append-nil (listed set));
+      writes = sym (after-none (rowLength * (set .count - 1)) out);
+    }
+
+-- a set that is open for a row keeps its bound when a row is added
+pub grown-one : {L : ℕ} {set new : Ready} {map marks before now : List ℕ} (x : Row) → Open L set map before 1 → Odd L (x .value)
+    → length marks ≡ length map → Holds marks (λ c. reach? L (take (set .count) (set .values) ++ (x .value ∷ [])) c) → Added set (x .value) new
+    → now ≡ after (rowLength * (set .count - 1)) (words x) before → Grown L set (x ∷ []) new marks before now
+unfolding flat
+grown-one {L} {set} {new} {map} {marks} {before} {now} x o v e h a w =
+    let below = o .space in
+    let f = o .fit in
+    let is = a .is ∙ grown-room set (x .value) (omega arith) in
+    record {
+      fit = a .fit f;
+      state = subst⁻¹ (λ (r : Ready). State L marks (r .values) (r .count)) is
+          (include-is L map marks (set .values) (set .count) (x .value) (o .state) (omega (arith, f .places)) (v .0) (v .1) e h);
+      count = a .more (omega arith);
+      lists = a .list (omega arith);
+      writes = w;
+    }
+
+-- what n rows ask of the words
+inside : {L : ℕ} {set : Ready} {map out : List ℕ} (n : ℕ) → Open L set map out n → rowLength * (set .count - 1) + rowLength * n ≤ length out
+inside n o = let s = o .space in let w = o .words in omega arith
+
+pub grown-then : {L : ℕ} {old mid new : Ready} {map marks more before now after : List ℕ} {xs ys : List Row} (n : ℕ) → Open L old map before n
+    → Grown L old xs mid marks before now → Grown L mid ys new more now after → Grown L old (xs ++ ys) new more before after
+grown-then {old = old} {mid} {new} {before = before} {now} {after} {xs} {ys} n o g h =
+    record {
+      fit = h .fit;
+      state = h .state;
+      count = omega (arith, g .count, h .count, length-append xs ys);
+      lists =
+          h .lists
+          ∙ ap (λ (l : List ℕ). l ++ values ys) (g .lists)
+          ∙ append-assoc (listed old) (values xs) (values ys)
+          ∙ ap (λ (l : List ℕ). listed old ++ l) (sym (map-append (λ x. x .value) xs ys));
+      writes =
+          h .writes
+          ∙ ap (λ (l : List ℕ). Rattle.meaning.specs.Basics.after (rowLength * (mid .count - 1)) (flat ys) l) (g .writes)
+          ∙ after-part (rowLength * (old .count - 1)) (rowLength * (mid .count - 1)) (flat xs) (flat ys) before
+          (omega (arith, inside n o)) (omega (arith, g .count, o .some, length-flat xs))
+          ∙ ap (λ (l : List ℕ). Rattle.meaning.specs.Basics.after (rowLength * (old .count - 1)) l before) (sym (flat-append xs ys));
+    }
+
+pub open-on : {L : ℕ} {old new : Ready} {map marks before now : List ℕ} {xs : List Row} (m n : ℕ) → length xs + n ≤ m → Open L old map before m
+    → Grown L old xs new marks before now → Open L new marks now n
+open-on {old = old} {new} {before = before} {now} {xs} m n h o g =
+    record {
+      fit = g .fit;
+      some = omega (arith, g .count, o .some);
+      state = g .state;
+      space = omega (arith, g .count, o .space);
+      words = let k = o .words in
+          let s = o .space in
+          omega (arith, ap length (g .writes), length-after (rowLength * (old .count - 1)) (flat xs) before (omega (arith, length-flat xs, o .some)));
+    }
+
+-- room for fewer
+pub open-less : {L : ℕ} {set : Ready} {map out : List ℕ} (m n : ℕ) → n ≤ m → Open L set map out m → Open L set map out n
+open-less m n h o = record { fit = o .fit; some = o .some; state = o .state; space = omega (arith, o .space); words = o .words }
+
+-- ---- step C, prefix by prefix
+
+rule-step : (vals : List ℕ) (ps : List Prefix) (i : ℕ) (d : Prefix) → i < length ps
+    → ruleC vals (drop i ps) ≡ prefixRows vals (getD ps i d) ++ ruleC (vals ++ values (prefixRows vals (getD ps i d))) (drop (i + 1) ps)
+rule-step vals ps i d h = go (has vals (getD ps i d .value)) refl
+  where
+    p : Prefix
+    p = getD ps i d
+
+    go : (b : Bool) → has vals (p .value) ≡ b → ruleC vals (drop i ps) ≡ prefixRows vals p ++ ruleC (vals ++ values (prefixRows vals p)) (drop (i + 1) ps)
+    go true e = rw (prefix-ready vals p e, append-nil vals) (rule-c-ready vals ps i d h e)
+    go false e = rw (prefix-new vals p e) (rule-c-row vals ps i d h e)
+
+-- the rows of the first i prefixes, and that those of the others complete the step
+pub record Part (L : ℕ) (old : Ready) (ps : List Prefix) (i : ℕ) (new : Ready) (map before now : List ℕ) : Type 0 where
+  pub made : List Row
+  pub grown : Grown L old made new map before now
+  pub rest : made ++ ruleC (listed new) (drop i ps) ≡ ruleC (listed old) ps
+
+module _ {L : ℕ} {old : Ready} {ps : List Prefix} {map before : List ℕ} (o : Open L old map before (length (ruleC (listed old) ps))) where
+  pub part-start : Part L old ps 0 old map before before
+  part-start = record { made = []; grown = grown-none _ o; rest = refl }
+
+  module _ {i : ℕ} {new : Ready} {marks now : List ℕ} (p : Part L old ps i new marks before now) where
+    pub part-open : (d : Prefix) → i < length ps → Open L new marks now (length (prefixRows (listed new) (getD ps i d)))
+    part-open d h =
+        let xs = prefixRows (listed new) (getD ps i d) in
+        open-on (length (ruleC (listed old) ps)) (length xs)
+        (omega (
+          arith,
+          ap length (p .rest),
+          length-append (p .made) (ruleC (listed new) (drop i ps)),
+          ap length (rule-step (listed new) ps i d h),
+          length-append xs (ruleC (listed new ++ values xs) (drop (i + 1) ps)),
+        ))
+        o (p .grown)
+
+    pub part-more : (d : Prefix) → i < length ps → {next : Ready} {more last : List ℕ}
+        → Grown L new (prefixRows (listed new) (getD ps i d)) next more now last → Part L old ps (i + 1) next more before last
+    part-more d h {next} g =
+        let xs = prefixRows (listed new) (getD ps i d) in
+        record {
+          made = p .made ++ xs;
+          grown = grown-then _ o (p .grown) g;
+          rest =
+              append-assoc (p .made) xs (ruleC (listed next) (drop (i + 1) ps))
+              ∙ ap (λ (l : List ℕ). p .made ++ (xs ++ ruleC l (drop (i + 1) ps))) (g .lists)
+              ∙ ap (λ (l : List Row). p .made ++ l) (sym (rule-step (listed new) ps i d h))
+              ∙ p .rest;
+        }
+
+    pub part-end : length ps ≤ i → Grown L old (ruleC (listed old) ps) new marks before now
+    part-end h =
+        subst (λ (xs : List Row). Grown L old xs new marks before now)
+        (sym (append-nil (p .made)) ∙ ap (λ (l : List Row). p .made ++ l) (sym (rule-c-end (listed new) ps i h)) ∙ p .rest) (p .grown)
+
+-- ---- one answer
+
+-- any two results that the contract allows list the same values and leave the same map and the same words
+pub one-grown : {L : ℕ} {old new new′ : Ready} {xs : List Row} {map map′ before now now′ : List ℕ} → length map ≡ length map′
+    → Grown L old xs new map before now → Grown L old xs new′ map′ before now′ → (listed new ≡ listed new′) × (map ≡ map′) × (now ≡ now′)
+one-grown {L} {old} {new} {new′} {xs} {map} {map′} e g h =
+    let same : listed new′ ≡ listed new = h .lists ∙ sym (g .lists) in
+    let held : Holds map′ (λ c. reach? L (listed new) c) = subst (λ (vals : List ℕ). Holds map′ (λ c. reach? L vals c)) same (h .state .reach) in
+    (sym same, one-map map map′ (λ c. reach? L (listed new) c) e (g .state .reach) held, g .writes ∙ sym (h .writes))

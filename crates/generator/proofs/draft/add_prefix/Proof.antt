@@ -1,0 +1,64 @@
+-- `add_prefix` meets its contract. Assumes nothing.
+use mathlib.Core.Path.{_≡_, sym, ap, _∙_, subst, subst⁻¹}
+use mathlib.Core.List.{List, [], _∷_}
+use Prim.Native.Nat.{ℕ}
+use lib.ListN.{length}
+use Rattle.meaning.specs.declared.Row.{Row}
+use Rattle.reach.specs.Listed.{listed}
+use Rattle.meaning.specs.Generator.{prefixRow}
+use Rattle.generator.specs.Growth.{Open, Grown, prefixRows}
+use Rattle.generator.proofs.DraftLaws.{prefix-ready, prefix-new, grown-none}
+use borrow.Author.Needs.{needs}
+use Rattle.generator.proofs.draft.add_prefix.Statement.{statement}
+use Rattle.generator.proofs.draft.add_prefix.Tie as tie
+
+has-requires : tie.Need-has-requires
+has-requires c κs = search needs
+
+returns : tie.Need-returns
+returns c =
+    let f = c .before .before .before .before .before .before .before in
+    let a = f .args in
+    subst⁻¹ (λ (xs : List Row). Grown (a .top) (a .t3) xs (a .t3) (a .map .now) (a .out .now) (a .out .now))
+    (prefix-ready (listed (a .t3)) (a .p) (sym (c .before .has .ensures) ∙ c .if1 .taken)) (grown-none _ (f .pre .0))
+
+index-of-requires : tie.Need-index-of-requires
+index-of-requires c κs = search needs
+
+-- the prefix is not ready
+its-row : (c : tie.Else1) → let a = c .before .before .before .before .before .before .before .args in prefixRows (listed (a .t3)) (a .p) ≡ prefixRow (listed (a .t3)) (a .p) ∷ []
+its-row c = prefix-new _ _ (sym (c .before .has .ensures) ∙ c .if1 .left)
+
+add-row-requires : tie.Need-add-row-requires
+add-row-requires c κs =
+    let e = c .before .before .before in
+    let f = e .before .before .before .before .before .before .before in
+    (subst (λ (xs : List Row). Open (f .args .top) (f .args .t3) (f .args .map .now) (f .args .out .now) (length xs)) (its-row e) (f .pre .0), f .pre .1)
+
+same-length : tie.Need-same-length
+same-length c = search needs
+
+same-length-2 : tie.Need-same-length-2
+same-length-2 c = search needs
+
+returns-2 : tie.Need-returns-2
+returns-2 c =
+    let d = c .before .before .before .before in
+    let e = d .before .before .before .before in
+    let a = e .before .before .before .before .before .before .before .args in
+    subst⁻¹ (λ (xs : List Row). Grown (a .top) (a .t3) xs (d .add-row .result) (d .add-row .last .0) (a .out .now) (d .add-row .last .1 .1 .1 .0))
+    (its-row e
+    ∙ ap (λ (k : ℕ). record { u = k; v = 0; l1 = a .p .gap; l2 = 0; s = a .p .s; r = 0; value = a .p .value } ∷ []) (sym (d .before .before .before .index-of .ensures)))
+    (d .add-row .ensures)
+
+pub add-prefix-spec : {M : Type 1} → statement M
+add-prefix-spec =
+    tie.close
+    (tie.spec
+    has-requires
+    returns
+    index-of-requires
+    add-row-requires
+    same-length
+    same-length-2
+    returns-2)

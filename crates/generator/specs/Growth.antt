@@ -1,0 +1,47 @@
+-- A graph that grows row by row: its rows' words in front of a lent slice, its ready set, and the map of what one operation reaches. Assumes nothing.
+use mathlib.Core.Path.{_≡_}
+use mathlib.Core.Bool.{cond}
+use mathlib.Core.List.{List, [], _∷_, _++_, List·Memᴰ}
+use mathlib.Core.Option.{Option, some, none}
+use Prim.Native.Nat.{ℕ, _+_, _-_, _*_, _≤_}
+use lib.ListN.{length}
+use Rattle.meaning.specs.declared.Prefix.{Prefix}
+use Rattle.meaning.specs.declared.Row.{Row}
+use Rattle.meaning.specs.Basics.{has, after}
+use Rattle.meaning.specs.Graph.{rowLength, flat, values}
+use Rattle.meaning.specs.Digits.{prefixes}
+use Rattle.meaning.specs.Generator.{prefixRow}
+use Rattle.meaning.specs.Refusals.{mostRows}
+use Rattle.reach.specs.declared.ready.Ready.{Ready}
+use Rattle.reach.specs.Listed.{room, listed, Fit}
+use Rattle.reach.specs.Marks.{Odd, State}
+
+-- n rows more have room
+pub record Open (L : ℕ) (set : Ready) (map out : List ℕ) (n : ℕ) : Type 0 where
+  pub fit : Fit set
+  pub some : 1 ≤ set .count
+  pub state : State L map (set .values) (set .count)
+  pub space : set .count + n ≤ room
+  pub words : rowLength * mostRows ≤ length out
+
+-- the rows xs have been added: their words stand behind those before, and nothing else is changed
+pub record Grown (L : ℕ) (old : Ready) (xs : List Row) (new : Ready) (map before now : List ℕ) : Type 0 where
+  pub fit : Fit new
+  pub state : State L map (new .values) (new .count)
+  pub count : new .count ≡ old .count + length xs
+  pub lists : listed new ≡ listed old ++ values xs
+  pub writes : now ≡ after (rowLength * (old .count - 1)) (flat xs) before
+
+-- one row or none
+abbrev pub atMostOne : Option Row → List Row
+atMostOne none = []
+atMostOne (some x) = x ∷ []
+
+-- step C's row of a prefix, if it is not ready
+unfoldable pub prefixRows : List ℕ → Prefix → List Row
+prefixRows vals p = cond (has vals (p .value)) [] (prefixRow vals p ∷ [])
+
+-- what step C can serve
+pub record Servable (L c : ℕ) : Type 0 where
+  pub odd : Odd L c
+  pub steps : (p : Prefix) → List·Memᴰ p (prefixes c) → Odd L (p .value)

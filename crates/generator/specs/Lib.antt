@@ -1,0 +1,4 @@
+pub mod Rule
+pub mod Growth
+pub mod Search
+pub mod Lists

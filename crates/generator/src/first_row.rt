@@ -1,0 +1,155 @@
+// The first row that makes a constant from the ready values: the first valid choice in the order u index, v index, l1, l2, s, each
+// ascending, the u index at most the v index.
+use meaning::Row;
+ghost use mathlib.Core.Path.{_≡_};
+ghost use Prim.Native.Nat.{_≤_, _<_, min};
+ghost use lib.ListN.{take};
+ghost use Rattle.meaning.specs.Operation.{size};
+ghost use Rattle.meaning.specs.Generator.{rowFor};
+ghost use Rattle.generator.specs.Search.{found, Sought, Asked, choiceOf, signRow, rightRow, leftRow, pairRow, fromRow};
+
+pub enum Found {
+    At(Row),
+    Missing,
+}
+
+// Two ready values u and v with their indices i and j, and the constant c wanted of them.
+pub struct Pair {
+    pub limit: u32,
+    pub c: u32,
+    pub i: u32,
+    pub j: u32,
+    pub u: u32,
+    pub v: u32,
+}
+
+// |n|
+fn size_of(u: u32, v: u32, l1: u32, l2: u32, s: u32) -> u64
+    requires { ⌜ (l1 ≤ 30) × (l2 ≤ 30) ⌝ }
+    ensures { λ r. ⌜ r ≡ size u v l1 l2 s ⌝ }
+{
+    let a = shifts::shifted(u, l1);
+    let b = shifts::shifted(v, l2);
+    if s == 0 {
+        return a + b;
+    }
+    shifts::apart(a, b)
+}
+
+// The row of one choice, if that makes c.
+fn choice(p: Pair, l1: u32, l2: u32, s: u32) -> Found
+    requires { ⌜ Sought p × (l1 ≤ p .limit) × (l2 ≤ p .limit) × (min l1 l2 ≡ 0) × (s ≤ 1) ⌝ }
+    ensures { λ r. ⌜ r ≡ found (choiceOf p l1 l2 s) ⌝ }
+{
+    let m = size_of(p.u, p.v, l1, l2, s);
+    if m == 0 {
+        return Found::Missing;
+    }
+    let r = u64::trailing_zeros(m);
+    if m >> r != p.c as u64 {
+        return Found::Missing;
+    }
+    Found::At(Row {
+        u: p.i,
+        v: p.j,
+        l1,
+        l2,
+        s,
+        r,
+        value: p.c,
+    })
+}
+
+// Plus before minus.
+fn signs(p: Pair, l1: u32, l2: u32) -> Found
+    requires { ⌜ Sought p × (l1 ≤ p .limit) × (l2 ≤ p .limit) × (min l1 l2 ≡ 0) ⌝ }
+    ensures { λ r. ⌜ r ≡ found (signRow p l1 l2) ⌝ }
+{
+    let plus = choice(p, l1, l2, 0);
+    let Found::Missing = plus else {
+        return plus;
+    };
+    choice(p, l1, l2, 1)
+}
+
+// Where l1 is 0.
+fn rights(p: Pair) -> Found
+    requires { ⌜ Sought p ⌝ }
+    ensures { λ r. ⌜ r ≡ found (rightRow p) ⌝ }
+{
+    let mut l: u32 = 0;
+    while l <= p.limit {
+        let f = signs(p, 0, l);
+        let Found::Missing = f else {
+            return f;
+        };
+        l += 1;
+    }
+    Found::Missing
+}
+
+// Where l1 is not, so that l2 is.
+fn lefts(p: Pair) -> Found
+    requires { ⌜ Sought p ⌝ }
+    ensures { λ r. ⌜ r ≡ found (leftRow p) ⌝ }
+{
+    let mut l: u32 = 1;
+    while l <= p.limit {
+        let f = signs(p, l, 0);
+        let Found::Missing = f else {
+            return f;
+        };
+        l += 1;
+    }
+    Found::Missing
+}
+
+// Every pair of shifts is tried.
+fn pair_row(p: Pair) -> Found
+    requires { ⌜ Sought p ⌝ }
+    ensures { λ r. ⌜ r ≡ found (pairRow p) ⌝ }
+{
+    let right = rights(p);
+    let Found::Missing = right else {
+        return right;
+    };
+    lefts(p)
+}
+
+// The u index is i.
+fn row_from(limit: u32, ready: &[u32], n: usize, i: usize, c: u32) -> Found
+    requires { ⌜ Asked limit (now ready) n c × (i < n) ⌝ }
+    ensures { λ r. ⌜ r ≡ found (fromRow limit (take n (now (ready .entry))) c i) ⌝ }
+{
+    let mut j = i;
+    while j < n {
+        let f = pair_row(Pair {
+            limit,
+            c,
+            i: i as u32,
+            j: j as u32,
+            u: ready[i],
+            v: ready[j],
+        });
+        let Found::Missing = f else {
+            return f;
+        };
+        j += 1;
+    }
+    Found::Missing
+}
+
+pub fn row_for(limit: u32, ready: &[u32], n: usize, c: u32) -> Found
+    requires { ⌜ Asked limit (now ready) n c ⌝ }
+    ensures { λ r. ⌜ r ≡ found (rowFor limit (take n (now (ready .entry))) c) ⌝ }
+{
+    let mut i = 0;
+    while i < n {
+        let f = row_from(limit, ready, n, i, c);
+        let Found::Missing = f else {
+            return f;
+        };
+        i += 1;
+    }
+    Found::Missing
+}

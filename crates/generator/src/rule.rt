@@ -1,0 +1,79 @@
+// One turn of the generator's rule: a row by step A, two by step B, or the prefixes' rows by step C.
+use constants::wanted::Wanted;
+use reach::ready::Ready;
+use reach::serving::Choice;
+ghost use mathlib.Core.Path.{_≡_};
+ghost use mathlib.Core.List.{List·Memᴰ};
+ghost use Prim.Native.Nat.{_/_, _≤_, _<_};
+ghost use lib.ListN.{length};
+ghost use Rattle.constants.specs.Held.{kept};
+ghost use Rattle.meaning.specs.Generator.{turn as Generator·turn};
+ghost use Rattle.reach.specs.Listed.{listed};
+ghost use Rattle.reach.specs.Marks.{State};
+ghost use Rattle.generator.specs.Growth.{Open, Grown};
+ghost use Rattle.generator.specs.Rule.{AllServable, firstMarked, Picked, NoneNear};
+
+// The smallest constant that one operation reaches.
+pub enum Near {
+    At(u32),
+    Nothing,
+}
+
+// A constant and the smallest value that serves it.
+pub enum Chosen {
+    By { c: u32, s: u32 },
+    Nothing,
+}
+
+// Step A's constant.
+fn nearest(map: &[u8], w: Wanted) -> Near
+    requires { ⌜ (w .count ≤ 16) × ((c : _) → List·Memᴰ c (kept w) → c / 2 < length (now map)) ⌝ }
+    ensures { λ r. ⌜ r ≡ firstMarked (now (map .entry)) (kept w) ⌝ }
+{
+    let mut i = 0;
+    while i < w.count {
+        let c = w.values[i];
+        if reach::reached(map, c) {
+            return Near::At(c);
+        }
+        i += 1;
+    }
+    Near::Nothing
+}
+
+// Step B's constant and value.
+fn pick(map: &[u8], top: u32, set: Ready, w: Wanted) -> Chosen
+    requires { ⌜ State top (now map) (set .values) (set .count) × (top ≤ 17) × (w .count ≤ 16) × AllServable top (kept w)
+        × NoneNear top (listed set) (kept w) ⌝ }
+    ensures { λ r. ⌜ Picked top (listed set) (kept w) r ⌝ }
+{
+    let mut i = 0;
+    while i < w.count {
+        let c = w.values[i];
+        let choice = reach::serving::choose(map, top, &set.values, set.count, c, 65535);
+        if let Choice::At { s, tried: _ } = choice {
+            return Chosen::By { c, s };
+        }
+        i += 1;
+    }
+    Chosen::Nothing
+}
+
+// One turn, for the constants that remain.
+pub fn turn(map: &mut [u8], top: u32, set: Ready, out: &mut [u32], w: Wanted) -> Ready
+    requires { ⌜ Open top set (now map) (now out) (length (Generator·turn top (listed set) (kept w))) × (top ≤ 17) × (w .count ≤ 16)
+        × AllServable top (kept w) ⌝ }
+    ensures { λ r. ⌜ Grown top set (Generator·turn top (listed set) (kept w)) r (now (map .exit)) (now (out .entry)) (now (out .exit)) ⌝ }
+{
+    if w.count == 0 {
+        return set;
+    }
+    if let Near::At(c) = nearest(map, w) {
+        return crate::draft::add_first(map, top, set, out, c);
+    }
+    if let Chosen::By { c, s } = pick(map, top, set, w) {
+        let more = crate::draft::add_first(map, top, set, out, s);
+        return crate::draft::add_first(map, top, more, out, c);
+    }
+    crate::draft::add_prefixes(map, top, set, out, w.values[0])
+}

@@ -1,3 +1,0 @@
--- What is looked for, and the choice that it gives.
-pub mod Choices
-pub mod Least
