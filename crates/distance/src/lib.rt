@@ -10,31 +10,31 @@ ghost use lib.ListN.{length};
 ghost use Rattle.meaning.specs.Basics.{has};
 ghost use Rattle.meaning.specs.Distance.{distance as Distance·distance};
 ghost use Rattle.meaning.specs.Refusals.{distanceTold};
-ghost use Rattle.reach.specs.Marks.{Odd, Ready, State};
+ghost use Rattle.search.specs.Marks.{Odd, Ready, State};
 
 // The map of what one operation on the values reaches.
-fn fill(map: &mut [u8], top: u32, vals: &[u32])
-    requires { ⌜ State top (now map) (now vals) 0 × Ready top (now vals) (length (now vals)) ⌝ }
-    ensures { λ _. ⌜ State top (now (map .exit)) (now (vals .entry)) (length (now (vals .entry))) ⌝ }
+fn fill(map: &mut [u8], limit: u32, vals: &[u32])
+    requires { ⌜ State limit (now map) (now vals) 0 × Ready limit (now vals) (length (now vals)) ⌝ }
+    ensures { λ _. ⌜ State limit (now (map .exit)) (now (vals .entry)) (length (now (vals .entry))) ⌝ }
 {
     let mut n = 0;
     while n < vals.len() {
-        reach::add(map, top, vals, n, vals[n]);
+        search::add(map, limit, vals, n, vals[n]);
         n += 1;
     }
 }
 
 // One operation, two, or more, by a map of zeros.
-fn beyond_by(map: &mut [u8], top: u32, vals: &[u32], c: u32) -> Far
-    requires { ⌜ State top (now map) (now vals) 0 × Ready top (now vals) (length (now vals)) × Odd top c
+fn beyond_by(map: &mut [u8], limit: u32, vals: &[u32], c: u32) -> Far
+    requires { ⌜ State limit (now map) (now vals) 0 × Ready limit (now vals) (length (now vals)) × Odd limit c
         × (has (now vals) c ≡ false) ⌝ }
-    ensures { λ r. ⌜ r ≡ Distance·distance top (now (vals .entry)) c ⌝ }
+    ensures { λ r. ⌜ r ≡ Distance·distance limit (now (vals .entry)) c ⌝ }
 {
-    fill(map, top, vals);
-    if reach::reached(map, c) {
+    fill(map, limit, vals);
+    if search::reached(map, c) {
         return Far::One;
     }
-    if reach::serving::served(map, top, vals, vals.len(), c) {
+    if search::serving::served(map, limit, vals, vals.len(), c) {
         return Far::Two;
     }
     Far::Beyond
@@ -42,16 +42,16 @@ fn beyond_by(map: &mut [u8], top: u32, vals: &[u32], c: u32) -> Far
 
 // The same by a map of its own: a short one where it has a byte for each odd number, since clearing the long one takes longer
 // than all else there.
-fn beyond_zero(top: u32, vals: &[u32], c: u32) -> Far
-    requires { ⌜ (top ≤ 17) × Ready top (now vals) (length (now vals)) × Odd top c × (has (now vals) c ≡ false) ⌝ }
-    ensures { λ r. ⌜ r ≡ Distance·distance top (now (vals .entry)) c ⌝ }
+fn beyond_zero(limit: u32, vals: &[u32], c: u32) -> Far
+    requires { ⌜ (limit ≤ 17) × Ready limit (now vals) (length (now vals)) × Odd limit c × (has (now vals) c ≡ false) ⌝ }
+    ensures { λ r. ⌜ r ≡ Distance·distance limit (now (vals .entry)) c ⌝ }
 {
-    if top <= 13 {
+    if limit <= 13 {
         let mut short = [0u8; 4096];
-        return beyond_by(&mut short, top, vals, c);
+        return beyond_by(&mut short, limit, vals, c);
     }
     let mut long = [0u8; 65536];
-    beyond_by(&mut long, top, vals, c)
+    beyond_by(&mut long, limit, vals, c)
 }
 
 // The distance of c from the ready list, or the refusal.
@@ -62,7 +62,7 @@ pub fn distance(b: u32, vals: &[u32], c: u32) -> Far
     if let Answer::Refused(why) = answer {
         return Far::Refused(why);
     }
-    if reach::ready::has(vals, vals.len(), c) {
+    if search::ready::has(vals, vals.len(), c) {
         return Far::Zero;
     }
     beyond_zero(b + 1, vals, c)

@@ -38,10 +38,10 @@ fn ready_values(b: u32, vals: &[u32]) -> Answer
 pub fn admit(b: u32, vals: &[u32], c: u32) -> Answer
     ensures { λ r. ⌜ r ≡ firstOf (distanceOrder b (now (vals .entry)) c) ⌝ }
 {
-    if !numbers::within(b as usize, 2, 16) {
+    if !arith::within(b as usize, 2, 16) {
         return Answer::Refused(Refusal::Bits);
     }
-    if !numbers::within(vals.len(), 1, 129) {
+    if !arith::within(vals.len(), 1, 129) {
         return Answer::Refused(Refusal::Ready(0));
     }
     let values = ready_values(b, vals);

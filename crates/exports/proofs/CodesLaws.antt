@@ -9,7 +9,7 @@ use native.Mathlib.Omega.{arith}
 use lib.Dec.{eqb, leb, ltb, leb→le}
 use lib.IntN.{ℤ, pos, negℤ, natAbs}
 use lib.ListN.{length, length-append}
-use Rattle.numbers.proofs.Integers.{abs-neg}
+use Rattle.laws.proofs.Integers.{abs-neg}
 use Rattle.meaning.specs.declared.Answer.{Answer}
 use Rattle.meaning.specs.declared.Answer.the-variants.{Accepted, Refused}
 use Rattle.meaning.specs.declared.Refusal.{Refusal}

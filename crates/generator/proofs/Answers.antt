@@ -18,7 +18,7 @@ use Rattle.meaning.specs.Limits.{limit}
 use Rattle.meaning.specs.Constants.{wanted}
 use Rattle.meaning.specs.Graph.{rowLength, flat}
 use Rattle.meaning.specs.Generator.{turns, generated}
-use Rattle.meaning.specs.Refusals.{mostRows, buffer, fewRows, admitOrder, admitted, Done, given, orRows, drawn, drawnTold, rowsWritten}
+use Rattle.meaning.specs.Refusals.{mostRows, buffer, fewRows, admitOrder, admitted, Done, given, drawnAs, drawn, drawnTold, rowsWritten}
 use Rattle.laws.proofs.Stages.{stops, stops-at, passes-on, over-none}
 use Rattle.laws.proofs.Chain.{prefix-row}
 use Rattle.laws.proofs.Checked.{Admitted}
@@ -58,7 +58,7 @@ module _ (b : ℕ) (ts : List ℤ) (room : ℕ) where
   unfolding drawnTold rowsWritten
   told-refused why old e =
       record {
-        answers = ap (λ (a : Answer). orRows a (length (generated b ts))) (sym e);
+        answers = ap (λ (a : Answer). drawnAs a (length (generated b ts))) (sym e);
         writes = sym (over-none old) ∙ ap (λ (a : Answer). over (given a (flat (generated b ts))) old) (sym e);
       }
 
@@ -67,7 +67,7 @@ module _ (b : ℕ) (ts : List ℤ) (room : ℕ) where
   unfolding drawnTold rowsWritten
   told-rows n before now e l f =
       record {
-        answers = ap out.Rows l ∙ ap (λ (a : Answer). orRows a (length (generated b ts))) (sym e);
+        answers = ap out.Rows l ∙ ap (λ (a : Answer). drawnAs a (length (generated b ts))) (sym e);
         writes = f ∙ ap (λ (a : Answer). over (given a (flat (generated b ts))) before) (sym e);
       }
 

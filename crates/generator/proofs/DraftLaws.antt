@@ -8,18 +8,18 @@ use native.Mathlib.Omega.{arith}
 use lib.ListN.{length, length-append, getD, take, drop}
 use Rattle.meaning.specs.declared.Prefix.{Prefix}
 use Rattle.meaning.specs.declared.Row.{Row}
-use Rattle.meaning.specs.Basics.{has, after}
+use Rattle.meaning.specs.Basics.{has, overAt}
 use Rattle.meaning.specs.Graph.{rowLength, words, flat, values}
 use Rattle.meaning.specs.Distance.{reach?}
 use Rattle.meaning.specs.Generator.{prefixRow, ruleC}
 use Rattle.laws.proofs.Graphs.{length-flat, flat-append}
 use Rattle.laws.proofs.Steps.{rule-c-ready, rule-c-row, rule-c-end}
-use Rattle.laws.proofs.Over.{length-after, after-part, after-none}
-use Rattle.reach.specs.declared.ready.Ready.{Ready}
-use Rattle.reach.specs.Listed.{listed, Added}
-use Rattle.reach.proofs.ReadyLaws.{grown-room}
-use Rattle.reach.specs.Marks.{Holds, Odd, State}
-use Rattle.reach.proofs.Marks.{include-is, one-map}
+use Rattle.laws.proofs.Over.{length-over-at, over-at-part, over-at-none}
+use Rattle.search.specs.declared.ready.Ready.{Ready}
+use Rattle.search.specs.Listed.{listed, Added}
+use Rattle.search.proofs.ReadyLaws.{grown-room}
+use Rattle.search.specs.Marks.{Holds, Odd, State}
+use Rattle.search.proofs.Marks.{include-is, one-map}
 use Rattle.generator.specs.Search.{found}
 use Rattle.generator.specs.declared.first_row.Found.the-variants.{At, Missing}
 use Rattle.generator.specs.Growth.{Open, Grown, prefixRows}
@@ -54,13 +54,13 @@ grown-none {L} {set} {map} {out} n o =
       state = o .state;
       count = omega arith;
       lists = sym (append-nil (listed set));
-      writes = sym (after-none (rowLength * (set .count - 1)) out);
+      writes = sym (over-at-none (rowLength * (set .count - 1)) out);
     }
 
 -- a set that is open for a row keeps its bound when a row is added
 pub grown-one : {L : ℕ} {set new : Ready} {map marks before now : List ℕ} (x : Row) → Open L set map before 1 → Odd L (x .value)
     → length marks ≡ length map → Holds marks (λ c. reach? L (take (set .count) (set .values) ++ (x .value ∷ [])) c) → Added set (x .value) new
-    → now ≡ after (rowLength * (set .count - 1)) (words x) before → Grown L set (x ∷ []) new marks before now
+    → now ≡ overAt (rowLength * (set .count - 1)) (words x) before → Grown L set (x ∷ []) new marks before now
 unfolding flat
 grown-one {L} {set} {new} {map} {marks} {before} {now} x o v e h a w =
     let below = o .space in
@@ -79,9 +79,9 @@ grown-one {L} {set} {new} {map} {marks} {before} {now} x o v e h a w =
 inside : {L : ℕ} {set : Ready} {map out : List ℕ} (n : ℕ) → Open L set map out n → rowLength * (set .count - 1) + rowLength * n ≤ length out
 inside n o = let s = o .space in let w = o .words in omega arith
 
-pub grown-then : {L : ℕ} {old mid new : Ready} {map marks more before now after : List ℕ} {xs ys : List Row} (n : ℕ) → Open L old map before n
-    → Grown L old xs mid marks before now → Grown L mid ys new more now after → Grown L old (xs ++ ys) new more before after
-grown-then {old = old} {mid} {new} {before = before} {now} {after} {xs} {ys} n o g h =
+pub grown-then : {L : ℕ} {old mid new : Ready} {map marks more before now last : List ℕ} {xs ys : List Row} (n : ℕ) → Open L old map before n
+    → Grown L old xs mid marks before now → Grown L mid ys new more now last → Grown L old (xs ++ ys) new more before last
+grown-then {old = old} {mid} {new} {before = before} {now} {last} {xs} {ys} n o g h =
     record {
       fit = h .fit;
       state = h .state;
@@ -93,10 +93,10 @@ grown-then {old = old} {mid} {new} {before = before} {now} {after} {xs} {ys} n o
           ∙ ap (λ (l : List ℕ). listed old ++ l) (sym (map-append (λ x. x .value) xs ys));
       writes =
           h .writes
-          ∙ ap (λ (l : List ℕ). Rattle.meaning.specs.Basics.after (rowLength * (mid .count - 1)) (flat ys) l) (g .writes)
-          ∙ after-part (rowLength * (old .count - 1)) (rowLength * (mid .count - 1)) (flat xs) (flat ys) before
+          ∙ ap (λ (l : List ℕ). overAt (rowLength * (mid .count - 1)) (flat ys) l) (g .writes)
+          ∙ over-at-part (rowLength * (old .count - 1)) (rowLength * (mid .count - 1)) (flat xs) (flat ys) before
           (omega (arith, inside n o)) (omega (arith, g .count, o .some, length-flat xs))
-          ∙ ap (λ (l : List ℕ). Rattle.meaning.specs.Basics.after (rowLength * (old .count - 1)) l before) (sym (flat-append xs ys));
+          ∙ ap (λ (l : List ℕ). overAt (rowLength * (old .count - 1)) l before) (sym (flat-append xs ys));
     }
 
 pub open-on : {L : ℕ} {old new : Ready} {map marks before now : List ℕ} {xs : List Row} (m n : ℕ) → length xs + n ≤ m → Open L old map before m
@@ -109,7 +109,7 @@ open-on {old = old} {new} {before = before} {now} {xs} m n h o g =
       space = omega (arith, g .count, o .space);
       words = let k = o .words in
           let s = o .space in
-          omega (arith, ap length (g .writes), length-after (rowLength * (old .count - 1)) (flat xs) before (omega (arith, length-flat xs, o .some)));
+          omega (arith, ap length (g .writes), length-over-at (rowLength * (old .count - 1)) (flat xs) before (omega (arith, length-flat xs, o .some)));
     }
 
 -- room for fewer

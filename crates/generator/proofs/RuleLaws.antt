@@ -14,17 +14,17 @@ use Rattle.meaning.specs.Basics.{firstSome, andThen}
 use Rattle.meaning.specs.Digits.{prefixes}
 use Rattle.meaning.specs.Graph.{values}
 use Rattle.meaning.specs.Distance.{reach?}
-use Rattle.meaning.specs.Generator.{rowFor, ruleA, serve, ruleB, ruleC, orRows, turn}
+use Rattle.meaning.specs.Generator.{rowFor, ruleA, serve, ruleB, ruleC, orElse, turn}
 use Rattle.laws.proofs.Tests.{true-of, false-of}
 use Rattle.laws.proofs.Choices.{got, found, first-from, first-got, row-from, got-row}
 use Rattle.laws.proofs.Steps.{near as reached, rule-a-is}
 use Rattle.generator.specs.Growth.{atMostOne}
-use Rattle.reach.specs.declared.serving.Choice.{Choice}
-use Rattle.reach.specs.declared.serving.Choice.the-variants.{At, Nothing}
-use Rattle.reach.specs.Choices.{chosenIn}
-use Rattle.reach.specs.Marks.{marked, State}
-use Rattle.reach.proofs.Marks.{reached-is}
-use Rattle.reach.proofs.RuleB.{Served, b-empty, b-nothing, b-at, at-served}
+use Rattle.search.specs.declared.serving.Choice.{Choice}
+use Rattle.search.specs.declared.serving.Choice.the-variants.{At, Nothing}
+use Rattle.search.specs.Choices.{chosenIn}
+use Rattle.search.specs.Marks.{marked, State}
+use Rattle.search.proofs.Marks.{reached-is}
+use Rattle.search.proofs.RuleB.{Served, b-empty, b-nothing, b-at, at-served}
 use Rattle.generator.specs.declared.rule.Near.{Near}
 use Rattle.generator.specs.declared.rule.Near.the-variants as near
 use Rattle.generator.specs.Rule.{AllServable, firstMarked, Serves, NoneNear}
@@ -163,17 +163,17 @@ module _ (L : ℕ) (vals : List ℕ) where
   turn-none = refl
 
   pub turn-a : (cs : List ℕ) (new : List Row) → ruleA L vals cs ≡ some new → turn L vals cs ≡ new
-  unfolding turn orRows
+  unfolding turn orElse
   turn-a [] new e = absurd (let q : ruleA L vals [] ≡ none = unfold ruleA firstSome in refl in let z : _≡_ {A = ℕ} 0 1 = cc in omega arith)
   turn-a (c ∷ cs) new e = rw e
 
   pub turn-b : (cs : List ℕ) (new : List Row) → ruleA L vals cs ≡ none → ruleB L vals cs ≡ some new → turn L vals cs ≡ new
-  unfolding turn orRows
+  unfolding turn orElse
   turn-b [] new e f = absurd (let q = b-empty L vals in let z : _≡_ {A = ℕ} 0 1 = cc in omega arith)
   turn-b (c ∷ cs) new e f = rw (e, f)
 
   pub turn-c : (cs : List ℕ) → 1 ≤ length cs → ruleA L vals cs ≡ none → ruleB L vals cs ≡ none → turn L vals cs ≡ ruleC vals (prefixes (getD cs 0 0))
-  unfolding turn orRows
+  unfolding turn orElse
   turn-c [] h e f = absurd (omega arith)
   turn-c (c ∷ cs) h e f = rw (e, f)
 

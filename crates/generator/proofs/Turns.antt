@@ -1,22 +1,22 @@
--- The turns one after the other: the rows made so far, what the turns left make of them, and that there is room for the next. Assumes nothing.
+-- The turns one overAt the other: the rows made so far, what the turns left make of them, and that there is room for the next. Assumes nothing.
 use mathlib.Core.Path.{_≡_, refl, sym, ap, _∙_, subst, subst⁻¹}
 use mathlib.Core.List.{List, [], _++_, _∷_}
 use Prim.Native.Nat.{ℕ, zero, suc, _+_, _-_, _*_, _≤_, _<_, _^_}
 use native.Mathlib.Omega.{arith}
 use lib.ListN.{length, length-append, getD}
 use Rattle.meaning.specs.declared.Row.{Row}
-use Rattle.meaning.specs.Basics.{over, after}
+use Rattle.meaning.specs.Basics.{over, overAt}
 use Rattle.meaning.specs.Graph.{rowLength, flat, values, ready}
 use Rattle.meaning.specs.Generator.{remaining, turn, turns}
 use Rattle.meaning.specs.Refusals.{mostRows}
-use Rattle.reach.specs.declared.ready.Ready.{Ready}
-use Rattle.reach.specs.Listed.{listed, Started}
-use Rattle.reach.specs.Marks.{State, Holds, Wide}
+use Rattle.search.specs.declared.ready.Ready.{Ready}
+use Rattle.search.specs.Listed.{listed, Started}
+use Rattle.search.specs.Marks.{State, Holds, Wide}
 use Rattle.generator.specs.Growth.{Open, Grown}
 use Rattle.generator.proofs.DraftLaws.{grown-none, grown-then, open-on}
 use lib.Pow.{pow-mono}
 use Rattle.meaning.specs.Distance.{reach?}
-use Rattle.reach.proofs.ReadyLaws.{list-at}
+use Rattle.search.proofs.ReadyLaws.{list-at}
 
 -- ---- the input alone
 
@@ -59,7 +59,7 @@ pub started-open : {L : ℕ} {set : Ready} {map out : List ℕ} → Started set 
     → Open L set map out mostRows
 started-open s t h = record { fit = s .fit; some = omega (arith, s .one); state = t; space = omega (arith, s .one); words = h }
 
--- after k turns
+-- overAt k turns
 pub record Turned (L : ℕ) (cs : List ℕ) (first : Ready) (k : ℕ) (set : Ready) (map before now : List ℕ) : Type 0 where
   pub made : List Row
   pub grown : Grown L first made set map before now
@@ -102,7 +102,7 @@ module _ {L : ℕ} {cs : List ℕ} {first : Ready} {map before : List ℕ} (s : 
 -- all rows stand from the front on
 pub from-front : {L : ℕ} {first set : Ready} {xs : List Row} {map before now : List ℕ} → Started first → Grown L first xs set map before now
     → (set .count ≡ length xs + 1) × (now ≡ over (flat xs) before)
-unfolding after
+unfolding overAt
 from-front {first = first} {xs = xs} {before = before} s g =
     let e : rowLength * (first .count - 1) ≡ 0 = omega (arith, s .one) in
-    (omega (arith, g .count, s .one), g .writes ∙ ap (λ (n : ℕ). after n (flat xs) before) e)
+    (omega (arith, g .count, s .one), g .writes ∙ ap (λ (n : ℕ). overAt n (flat xs) before) e)

@@ -7,14 +7,14 @@ use Prim.Native.Nat.{ℕ, _+_, _-_, _*_, _≤_}
 use lib.ListN.{length}
 use Rattle.meaning.specs.declared.Prefix.{Prefix}
 use Rattle.meaning.specs.declared.Row.{Row}
-use Rattle.meaning.specs.Basics.{has, after}
+use Rattle.meaning.specs.Basics.{has, overAt}
 use Rattle.meaning.specs.Graph.{rowLength, flat, values}
 use Rattle.meaning.specs.Digits.{prefixes}
 use Rattle.meaning.specs.Generator.{prefixRow}
 use Rattle.meaning.specs.Refusals.{mostRows}
-use Rattle.reach.specs.declared.ready.Ready.{Ready}
-use Rattle.reach.specs.Listed.{room, listed, Fit}
-use Rattle.reach.specs.Marks.{Odd, State}
+use Rattle.search.specs.declared.ready.Ready.{Ready}
+use Rattle.search.specs.Listed.{room, listed, Fit}
+use Rattle.search.specs.Marks.{Odd, State}
 
 -- n rows more have room
 pub record Open (L : ℕ) (set : Ready) (map out : List ℕ) (n : ℕ) : Type 0 where
@@ -30,7 +30,7 @@ pub record Grown (L : ℕ) (old : Ready) (xs : List Row) (new : Ready) (map befo
   pub state : State L map (new .values) (new .count)
   pub count : new .count ≡ old .count + length xs
   pub lists : listed new ≡ listed old ++ values xs
-  pub writes : now ≡ after (rowLength * (old .count - 1)) (flat xs) before
+  pub writes : now ≡ overAt (rowLength * (old .count - 1)) (flat xs) before
 
 -- one row or none
 abbrev pub atMostOne : Option Row → List Row

@@ -7,7 +7,7 @@ use Prim.Native.Nat.{ℕ}
 use lib.ListN.{length}
 use Rattle.meaning.specs.Distance.{reach?}
 use Rattle.meaning.specs.Generator.{rowFor, ruleB}
-use Rattle.reach.specs.Marks.{marked, Odd}
+use Rattle.search.specs.Marks.{marked, Odd}
 use Rattle.generator.specs.Growth.{Servable, atMostOne}
 use Rattle.generator.specs.declared.rule.Near.{Near}
 use Rattle.generator.specs.declared.rule.Near.the-variants as near

@@ -3,43 +3,43 @@ use crate::first_row::Found;
 use meaning::Prefix;
 use meaning::ROW_LENGTH;
 use meaning::Row;
-use reach::ready::Ready;
+use search::ready::Ready;
 ghost use mathlib.Core.List.{[], _∷_};
 ghost use lib.ListN.{length};
 ghost use Rattle.meaning.specs.Digits.{prefixes};
 ghost use Rattle.meaning.specs.Generator.{rowFor, ruleC};
-ghost use Rattle.reach.specs.Listed.{listed};
-ghost use Rattle.reach.specs.Marks.{Odd};
+ghost use Rattle.search.specs.Listed.{listed};
+ghost use Rattle.search.specs.Marks.{Odd};
 ghost use Rattle.generator.specs.Growth.{Open, Grown, atMostOne, prefixRows, Servable};
 
 // One row more.
-fn add_row(map: &mut [u8], top: u32, set: Ready, out: &mut [u32], x: Row) -> Ready
-    requires { ⌜ Open top set (now map) (now out) 1 × Odd top (x .value) ⌝ }
-    ensures { λ r. ⌜ Grown top set (x ∷ []) r (now (map .exit)) (now (out .entry)) (now (out .exit)) ⌝ }
+fn add_row(map: &mut [u8], limit: u32, set: Ready, out: &mut [u32], x: Row) -> Ready
+    requires { ⌜ Open limit set (now map) (now out) 1 × Odd limit (x .value) ⌝ }
+    ensures { λ r. ⌜ Grown limit set (x ∷ []) r (now (map .exit)) (now (out .entry)) (now (out .exit)) ⌝ }
 {
     rows::put_row(out, ROW_LENGTH * (set.count - 1), x);
-    reach::add(map, top, &set.values, set.count, x.value);
+    search::add(map, limit, &set.values, set.count, x.value);
     set.with(x.value)
 }
 
 // The first row that makes c, where there is one.
-pub fn add_first(map: &mut [u8], top: u32, set: Ready, out: &mut [u32], c: u32) -> Ready
-    requires { ⌜ Open top set (now map) (now out) 1 × Odd top c ⌝ }
-    ensures { λ r. ⌜ Grown top set (atMostOne (rowFor top (listed set) c)) r (now (map .exit)) (now (out .entry)) (now (out .exit)) ⌝ }
+pub fn add_first(map: &mut [u8], limit: u32, set: Ready, out: &mut [u32], c: u32) -> Ready
+    requires { ⌜ Open limit set (now map) (now out) 1 × Odd limit c ⌝ }
+    ensures { λ r. ⌜ Grown limit set (atMostOne (rowFor limit (listed set) c)) r (now (map .exit)) (now (out .entry)) (now (out .exit)) ⌝ }
 {
-    let found = crate::first_row::row_for(top, &set.values, set.count, c);
+    let found = crate::first_row::row_for(limit, &set.values, set.count, c);
     let Found::At(x) = found else {
         return set;
     };
-    add_row(map, top, set, out, x)
+    add_row(map, limit, set, out, x)
 }
 
 // The row of a prefix that is not yet ready, from the prefix before it.
-fn add_prefix(map: &mut [u8], top: u32, set: Ready, out: &mut [u32], p: Prefix) -> Ready
-    requires { ⌜ Open top set (now map) (now out) (length (prefixRows (listed set) p)) × Odd top (p .value) ⌝ }
-    ensures { λ r. ⌜ Grown top set (prefixRows (listed set) p) r (now (map .exit)) (now (out .entry)) (now (out .exit)) ⌝ }
+fn add_prefix(map: &mut [u8], limit: u32, set: Ready, out: &mut [u32], p: Prefix) -> Ready
+    requires { ⌜ Open limit set (now map) (now out) (length (prefixRows (listed set) p)) × Odd limit (p .value) ⌝ }
+    ensures { λ r. ⌜ Grown limit set (prefixRows (listed set) p) r (now (map .exit)) (now (out .entry)) (now (out .exit)) ⌝ }
 {
-    if reach::ready::has(&set.values, set.count, p.value) {
+    if search::ready::has(&set.values, set.count, p.value) {
         return set;
     }
     let x = Row {
@@ -51,19 +51,19 @@ fn add_prefix(map: &mut [u8], top: u32, set: Ready, out: &mut [u32], p: Prefix) 
         r: 0,
         value: p.value,
     };
-    add_row(map, top, set, out, x)
+    add_row(map, limit, set, out, x)
 }
 
 // Step C for the constant c: its prefixes, shortest first.
-pub fn add_prefixes(map: &mut [u8], top: u32, set: Ready, out: &mut [u32], c: u32) -> Ready
-    requires { ⌜ Open top set (now map) (now out) (length (ruleC (listed set) (prefixes c))) × Servable top c ⌝ }
-    ensures { λ r. ⌜ Grown top set (ruleC (listed set) (prefixes c)) r (now (map .exit)) (now (out .entry)) (now (out .exit)) ⌝ }
+pub fn add_prefixes(map: &mut [u8], limit: u32, set: Ready, out: &mut [u32], c: u32) -> Ready
+    requires { ⌜ Open limit set (now map) (now out) (length (ruleC (listed set) (prefixes c))) × Servable limit c ⌝ }
+    ensures { λ r. ⌜ Grown limit set (ruleC (listed set) (prefixes c)) r (now (map .exit)) (now (out .entry)) (now (out .exit)) ⌝ }
 {
     let ps = digits::prefixes_of(c);
     let mut more = set;
     let mut i = 0;
     while i < ps.count {
-        more = add_prefix(map, top, more, out, ps.list[i as usize]);
+        more = add_prefix(map, limit, more, out, ps.list[i as usize]);
         i += 1;
     }
     more

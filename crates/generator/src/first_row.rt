@@ -28,12 +28,12 @@ fn size_of(u: u32, v: u32, l1: u32, l2: u32, s: u32) -> u64
     requires { ⌜ (l1 ≤ 30) × (l2 ≤ 30) ⌝ }
     ensures { λ r. ⌜ r ≡ size u v l1 l2 s ⌝ }
 {
-    let a = shifts::shifted(u, l1);
-    let b = shifts::shifted(v, l2);
+    let a = arith::shifted(u, l1);
+    let b = arith::shifted(v, l2);
     if s == 0 {
         return a + b;
     }
-    shifts::apart(a, b)
+    arith::difference(a, b)
 }
 
 // The row of one choice, if that makes c.

@@ -9,7 +9,7 @@ use meaning::Answer;
 use meaning::Drawn;
 use meaning::ROW_LENGTH;
 use meaning::Refusal;
-use reach::ready::Ready;
+use search::ready::Ready;
 ghost use mathlib.Core.Path.{_≡_};
 ghost use mathlib.Core.List.{[]};
 ghost use Prim.Native.Nat.{_+_, _*_, _≤_, _<_};
@@ -17,35 +17,35 @@ ghost use lib.ListN.{length};
 ghost use Rattle.constants.specs.Held.{kept};
 ghost use Rattle.meaning.specs.declared.Answer.the-variants.{Accepted};
 ghost use Rattle.meaning.specs.Basics.{over};
-ghost use Rattle.meaning.specs.Limits.{limit};
+ghost use Rattle.meaning.specs.Limits.{limit as Limits·limit};
 ghost use Rattle.meaning.specs.Graph.{rowLength, flat};
 ghost use Rattle.meaning.specs.Generator.{turns};
 ghost use Rattle.meaning.specs.Refusals.{mostRows, admitted, Done, drawnTold, rowsWritten};
-ghost use Rattle.reach.specs.Listed.{Started};
-ghost use Rattle.reach.specs.Marks.{State};
+ghost use Rattle.search.specs.Listed.{Started};
+ghost use Rattle.search.specs.Marks.{State};
 ghost use Rattle.generator.specs.Rule.{AllServable};
 
 // The input alone.
-fn start(map: &mut [u8], top: u32) -> Ready
-    requires { ⌜ (1 ≤ top) × State top (now map) [] 0 ⌝ }
-    ensures { λ r. ⌜ Started r × State top (now (map .exit)) (r .values) (r .count) ⌝ }
+fn start(map: &mut [u8], limit: u32) -> Ready
+    requires { ⌜ (1 ≤ limit) × State limit (now map) [] 0 ⌝ }
+    ensures { λ r. ⌜ Started r × State limit (now (map .exit)) (r .values) (r .count) ⌝ }
 {
     let set = Ready::start();
-    reach::add(map, top, &set.values, 0, 1);
+    search::add(map, limit, &set.values, 0, 1);
     set
 }
 
 // As many turns as there are constants.
-fn draw(map: &mut [u8], top: u32, out: &mut [u32], w: Wanted) -> Ready
-    requires { ⌜ (1 ≤ top) × (top ≤ 17) × State top (now map) [] 0 × (w .count ≤ 16) × AllServable top (kept w)
-        × (length (turns top (length (kept w)) (kept w) []) ≤ mostRows) × (rowLength * mostRows ≤ length (now out)) ⌝ }
-    ensures { λ r. ⌜ (r .count ≡ length (turns top (length (kept w)) (kept w) []) + 1)
-        × (now (out .exit) ≡ over (flat (turns top (length (kept w)) (kept w) [])) (now (out .entry))) ⌝ }
+fn draw(map: &mut [u8], limit: u32, out: &mut [u32], w: Wanted) -> Ready
+    requires { ⌜ (1 ≤ limit) × (limit ≤ 17) × State limit (now map) [] 0 × (w .count ≤ 16) × AllServable limit (kept w)
+        × (length (turns limit (length (kept w)) (kept w) []) ≤ mostRows) × (rowLength * mostRows ≤ length (now out)) ⌝ }
+    ensures { λ r. ⌜ (r .count ≡ length (turns limit (length (kept w)) (kept w) []) + 1)
+        × (now (out .exit) ≡ over (flat (turns limit (length (kept w)) (kept w) [])) (now (out .entry))) ⌝ }
 {
-    let mut set = start(map, top);
+    let mut set = start(map, limit);
     let mut k = 0;
     while k < w.count {
-        set = rule::turn(map, top, set, out, remaining::left(set, w));
+        set = rule::turn(map, limit, set, out, remaining::left(set, w));
         k += 1;
     }
     set
@@ -53,7 +53,7 @@ fn draw(map: &mut [u8], top: u32, out: &mut [u32], w: Wanted) -> Ready
 
 // The rows for an admitted list, by a map of zeros.
 fn rows_by(map: &mut [u8], b: u32, ts: &[i32], out: &mut [u32]) -> Drawn
-    requires { ⌜ State (limit b) (now map) [] 0 × (admitted b (now ts) ≡ Accepted) × (rowLength * mostRows ≤ length (now out)) ⌝ }
+    requires { ⌜ State (Limits·limit b) (now map) [] 0 × (admitted b (now ts) ≡ Accepted) × (rowLength * mostRows ≤ length (now out)) ⌝ }
     ensures { λ r. ⌜
         Done (drawnTold b (now (ts .entry)) (length (now (out .entry)))) (rowsWritten b (now (ts .entry)) (length (now (out .entry)))) r
         (now (out .entry)) (now (out .exit))

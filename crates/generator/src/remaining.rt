@@ -1,10 +1,10 @@
 // The wanted constants that are left to serve.
 use constants::wanted::Wanted;
-use reach::ready::Ready;
+use search::ready::Ready;
 ghost use Prim.Native.Nat.{_≤_};
 ghost use Rattle.meaning.specs.Generator.{remaining};
 ghost use Rattle.constants.specs.Held.{kept};
-ghost use Rattle.reach.specs.Listed.{listed};
+ghost use Rattle.search.specs.Listed.{listed};
 ghost use Rattle.generator.specs.Lists.{Lists};
 
 // The wanted constants that are not ready.
@@ -19,7 +19,7 @@ pub fn left(set: Ready, w: Wanted) -> Wanted
     let mut i = 0;
     while i < w.count {
         let c = w.values[i];
-        if !reach::ready::has(&set.values, set.count, c) {
+        if !search::ready::has(&set.values, set.count, c) {
             r.values[r.count] = c;
             r.count += 1;
         }

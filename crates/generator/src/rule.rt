@@ -1,15 +1,15 @@
 // One turn of the generator's rule: a row by step A, two by step B, or the prefixes' rows by step C.
 use constants::wanted::Wanted;
-use reach::ready::Ready;
-use reach::serving::Choice;
+use search::ready::Ready;
+use search::serving::Choice;
 ghost use mathlib.Core.Path.{_≡_};
 ghost use mathlib.Core.List.{List·Memᴰ};
 ghost use Prim.Native.Nat.{_/_, _≤_, _<_};
 ghost use lib.ListN.{length};
 ghost use Rattle.constants.specs.Held.{kept};
 ghost use Rattle.meaning.specs.Generator.{turn as Generator·turn};
-ghost use Rattle.reach.specs.Listed.{listed};
-ghost use Rattle.reach.specs.Marks.{State};
+ghost use Rattle.search.specs.Listed.{listed};
+ghost use Rattle.search.specs.Marks.{State};
 ghost use Rattle.generator.specs.Growth.{Open, Grown};
 ghost use Rattle.generator.specs.Rule.{AllServable, firstMarked, Picked, NoneNear};
 
@@ -33,7 +33,7 @@ fn nearest(map: &[u8], w: Wanted) -> Near
     let mut i = 0;
     while i < w.count {
         let c = w.values[i];
-        if reach::reached(map, c) {
+        if search::reached(map, c) {
             return Near::At(c);
         }
         i += 1;
@@ -42,15 +42,15 @@ fn nearest(map: &[u8], w: Wanted) -> Near
 }
 
 // Step B's constant and value.
-fn pick(map: &[u8], top: u32, set: Ready, w: Wanted) -> Chosen
-    requires { ⌜ State top (now map) (set .values) (set .count) × (top ≤ 17) × (w .count ≤ 16) × AllServable top (kept w)
-        × NoneNear top (listed set) (kept w) ⌝ }
-    ensures { λ r. ⌜ Picked top (listed set) (kept w) r ⌝ }
+fn pick(map: &[u8], limit: u32, set: Ready, w: Wanted) -> Chosen
+    requires { ⌜ State limit (now map) (set .values) (set .count) × (limit ≤ 17) × (w .count ≤ 16) × AllServable limit (kept w)
+        × NoneNear limit (listed set) (kept w) ⌝ }
+    ensures { λ r. ⌜ Picked limit (listed set) (kept w) r ⌝ }
 {
     let mut i = 0;
     while i < w.count {
         let c = w.values[i];
-        let choice = reach::serving::choose(map, top, &set.values, set.count, c, 65535);
+        let choice = search::serving::choose(map, limit, &set.values, set.count, c, 65535);
         if let Choice::At { s, tried: _ } = choice {
             return Chosen::By { c, s };
         }
@@ -60,20 +60,20 @@ fn pick(map: &[u8], top: u32, set: Ready, w: Wanted) -> Chosen
 }
 
 // One turn, for the constants that remain.
-pub fn turn(map: &mut [u8], top: u32, set: Ready, out: &mut [u32], w: Wanted) -> Ready
-    requires { ⌜ Open top set (now map) (now out) (length (Generator·turn top (listed set) (kept w))) × (top ≤ 17) × (w .count ≤ 16)
-        × AllServable top (kept w) ⌝ }
-    ensures { λ r. ⌜ Grown top set (Generator·turn top (listed set) (kept w)) r (now (map .exit)) (now (out .entry)) (now (out .exit)) ⌝ }
+pub fn turn(map: &mut [u8], limit: u32, set: Ready, out: &mut [u32], w: Wanted) -> Ready
+    requires { ⌜ Open limit set (now map) (now out) (length (Generator·turn limit (listed set) (kept w))) × (limit ≤ 17) × (w .count ≤ 16)
+        × AllServable limit (kept w) ⌝ }
+    ensures { λ r. ⌜ Grown limit set (Generator·turn limit (listed set) (kept w)) r (now (map .exit)) (now (out .entry)) (now (out .exit)) ⌝ }
 {
     if w.count == 0 {
         return set;
     }
     if let Near::At(c) = nearest(map, w) {
-        return crate::draft::add_first(map, top, set, out, c);
+        return crate::draft::add_first(map, limit, set, out, c);
     }
-    if let Chosen::By { c, s } = pick(map, top, set, w) {
-        let more = crate::draft::add_first(map, top, set, out, s);
-        return crate::draft::add_first(map, top, more, out, c);
+    if let Chosen::By { c, s } = pick(map, limit, set, w) {
+        let more = crate::draft::add_first(map, limit, set, out, s);
+        return crate::draft::add_first(map, limit, more, out, c);
     }
-    crate::draft::add_prefixes(map, top, set, out, w.values[0])
+    crate::draft::add_prefixes(map, limit, set, out, w.values[0])
 }

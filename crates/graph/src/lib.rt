@@ -108,7 +108,7 @@ pub fn check_width(b: u32, ts: &[i32], n: usize, words: &[u32], input: u32) -> A
     let Answer::Accepted = checked else {
         return checked;
     };
-    if !numbers::within(input as usize, 2, 32) {
+    if !arith::within(input as usize, 2, 32) {
         return Answer::Refused(Refusal::Width);
     }
     checked

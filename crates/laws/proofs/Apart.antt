@@ -6,7 +6,7 @@ use native.Mathlib.Omega.{arith}
 use lib.IntN.{ℤ, pos, negsuc, negℤ, natAbs, _*ℤ_}
 use lib.Pow.{pow-pos}
 use mathlib.Core.Logic.{_⊎_, inl, inr}
-use Rattle.numbers.proofs.Integers.{abs-mul}
+use Rattle.laws.proofs.Integers.{abs-mul}
 use Rattle.meaning.specs.declared.Parts.{Parts}
 use Rattle.meaning.specs.Basics.{zerosIn, zeros}
 use Rattle.meaning.specs.Constants.{signOf, shiftOf, oddOf, apart}

@@ -18,7 +18,7 @@ use Rattle.meaning.specs.declared.Refusal.the-variants as no
 use Rattle.meaning.specs.Basics.{any, has}
 use Rattle.meaning.specs.Distance.{reach?, serves?, candidates, distance, Reached, ReachedTwice}
 use Rattle.meaning.specs.Limits.{limit}
-use Rattle.meaning.specs.Refusals.{mostRows, firstOf, distanceOrder, orFar, distanceTold}
+use Rattle.meaning.specs.Refusals.{mostRows, firstOf, distanceOrder, farAs, distanceTold}
 use Rattle.laws.proofs.Tests.{both-of, of-both, any-in, in-any, every-in, true-of, bool-ext}
 use Rattle.laws.proofs.Stages.{first-accepts, need-accepts, each-accepts}
 use Rattle.laws.proofs.Inverse.{Odd}
@@ -165,12 +165,12 @@ distance-same L xs ys c h k =
 -- where nothing is refused, the answer is the distance under the limit
 pub distance-told : (b : ℕ) (vals : List ℕ) (c : ℕ) → firstOf (distanceOrder b vals c) ≡ Accepted → distanceTold b vals c ≡ distance (limit b) vals c
 unfolding distanceTold
-distance-told b vals c e = ap (λ a. orFar a (distance (limit b) vals c)) e
+distance-told b vals c e = ap (λ a. farAs a (distance (limit b) vals c)) e
 
 -- and a refusal is told
 pub distance-refused : (b : ℕ) (vals : List ℕ) (c : ℕ) (why : Refusal) → firstOf (distanceOrder b vals c) ≡ Refused why → distanceTold b vals c ≡ far.Refused why
 unfolding distanceTold
-distance-refused b vals c why e = ap (λ a. orFar a (distance (limit b) vals c)) e
+distance-refused b vals c why e = ap (λ a. farAs a (distance (limit b) vals c)) e
 
 -- a bit limit, a ready list and a target that are not refused
 pub record Askable (b : ℕ) (vals : List ℕ) (c : ℕ) : Type 0 where

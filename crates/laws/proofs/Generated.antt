@@ -24,7 +24,7 @@ use Rattle.meaning.specs.Operation.{Valid}
 use Rattle.meaning.specs.Graph.{rowLength, rows, flat, values, ready, Fits, Sound, served?}
 use Rattle.meaning.specs.Digits.{prefixes}
 use Rattle.meaning.specs.Generator.{remaining, ruleA, ruleB, ruleC, turn, turns, generated}
-use Rattle.meaning.specs.Refusals.{mostRows, buffer, fewRows, firstOf, admitOrder, generateOrder, admitted, checked, Done, orRows, drawn, drawnTold, rowsWritten, given}
+use Rattle.meaning.specs.Refusals.{mostRows, buffer, fewRows, firstOf, admitOrder, generateOrder, admitted, checked, Done, drawnAs, drawn, drawnTold, rowsWritten, given}
 use Rattle.laws.proofs.Tests.{T-of}
 use Rattle.laws.proofs.Graphs.{rows-flat, length-flat}
 use Rattle.laws.proofs.Chain.{Chain, chain-is, PrefixRow, prefix-row}
@@ -188,7 +188,7 @@ pub record Call (b : ℕ) (ts : List ℤ) (n : ℕ) (before now : List ℕ) : Ty
   pub count : n ≡ length (generated b ts)
   pub writes : now ≡ over (flat (generated b ts)) before
 
-reports : (a : Answer) (m n : ℕ) → out.Rows n ≡ orRows a m → (a ≡ Accepted) × (n ≡ m)
+reports : (a : Answer) (m n : ℕ) → out.Rows n ≡ drawnAs a m → (a ≡ Accepted) × (n ≡ m)
 reports Accepted m n e = (refl, cc)
 reports (Refused why) m n e = absurd (let z : _≡_ {A = ℕ} 0 1 = cc in omega arith)
 
@@ -211,7 +211,7 @@ call-accepted b ts n before now k =
     ap₂ (checked b ts) (k .count) (k .writes) ∙ generated-accepted b ts (k .admits) (drop (length (flat (generated b ts))) before)
 
 -- a call with room for a full graph refuses only what is not admitted
-refuses : (a : Answer) (m : ℕ) (why : Refusal) → out.Refused why ≡ orRows a m → a ≡ Refused why
+refuses : (a : Answer) (m : ℕ) (why : Refusal) → out.Refused why ≡ drawnAs a m → a ≡ Refused why
 refuses Accepted m why e = absurd (let z : _≡_ {A = ℕ} 0 1 = cc in omega arith)
 refuses (Refused y) m why e = cc
 

@@ -7,7 +7,7 @@ use native.Mathlib.Omega.{arith}
 use native.Mathlib.Decide.{decLe}
 use native.Mathlib.Nat.{pow-succ', mul-comm, le-mul-of-pos-right}
 use lib.Pow.{pow-mono}
-use Rattle.meaning.specs.Basics.{gap}
+use Rattle.meaning.specs.Basics.{difference}
 use Rattle.meaning.specs.Operation.{size, Outcome, Valid, Gives}
 use Rattle.laws.proofs.Zeros.{zeros-of-odd}
 use Rattle.laws.proofs.Operations.{exact-of, outcome-of}
@@ -39,12 +39,12 @@ gives-swap L u v c g =
 -- ---- x shifted left is the sum or the difference of y and z
 
 pub data Balance (L x y z : ℕ) : Type 0 where
-  sum : (j : ℕ) → j ≤ L → x * 2 ^ j ≡ y + z → Balance L x y z
-  difference : (j : ℕ) → j ≤ L → x * 2 ^ j ≡ gap y z → Balance L x y z
+  plus-is : (j : ℕ) → j ≤ L → x * 2 ^ j ≡ y + z → Balance L x y z
+  minus-is : (j : ℕ) → j ≤ L → x * 2 ^ j ≡ difference y z → Balance L x y z
 
 pub balance-swap : (L x y z : ℕ) → Balance L x y z → Balance L x z y
-balance-swap L x y z (sum j h e) = sum j h (omega arith)
-balance-swap L x y z (difference j h e) = difference j h (omega arith)
+balance-swap L x y z (plus-is j h e) = plus-is j h (omega arith)
+balance-swap L x y z (minus-is j h e) = minus-is j h (omega arith)
 
 -- one of the three is
 abbrev pub Balanced : (L u v c : ℕ) → Type 0
@@ -63,25 +63,25 @@ low-shift L m j n e p h = go (decLe j L)
 
 -- ---- from the operation
 
--- a number shifted by one place or more is even, so that its sum with an odd one is odd
+-- a number shifted by one place or more is even, so that its plus-is with an odd one is odd
 odd-plus : (u v l : ℕ) → u % 2 ≡ 1 → (2 ^ 0 * u + 2 ^ suc l * v) % 2 ≡ 1
 odd-plus u v l o = twice (2 ^ suc l * v) (2 ^ l * v) (rw (pow-succ' 2 l) (omega arith))
   where
     twice : (w h : ℕ) → w ≡ 2 * h → (2 ^ 0 * u + w) % 2 ≡ 1
     twice w h e = omega arith
 
-odd-minus : (u v l : ℕ) → u % 2 ≡ 1 → gap (2 ^ 0 * u) (2 ^ suc l * v) % 2 ≡ 1
+odd-minus : (u v l : ℕ) → u % 2 ≡ 1 → difference (2 ^ 0 * u) (2 ^ suc l * v) % 2 ≡ 1
 odd-minus u v l o = twice (2 ^ suc l * v) (2 ^ l * v) (rw (pow-succ' 2 l) (omega arith))
   where
-    twice : (w h : ℕ) → w ≡ 2 * h → gap (2 ^ 0 * u) w % 2 ≡ 1
+    twice : (w h : ℕ) → w ≡ 2 * h → difference (2 ^ 0 * u) w % 2 ≡ 1
     twice w h e = go (decLe u w)
       where
         other : (d x y : ℕ) → d + x ≡ 2 * y → x % 2 ≡ 1 → d % 2 ≡ 1
         other d x y e o = omega arith
 
-        go : Dec (u ≤ w) → gap (2 ^ 0 * u) w % 2 ≡ 1
-        go (yes q) = other (gap (2 ^ 0 * u) w) u h (omega arith) o
-        go (no q) = other (gap (2 ^ 0 * u) w) u (u - h) (omega arith) o
+        go : Dec (u ≤ w) → difference (2 ^ 0 * u) w % 2 ≡ 1
+        go (yes q) = other (difference (2 ^ 0 * u) w) u h (omega arith) o
+        go (no q) = other (difference (2 ^ 0 * u) w) u (u - h) (omega arith) o
 
 odd-size : (u v l s : ℕ) → u % 2 ≡ 1 → size u v 0 (suc l) s % 2 ≡ 1
 odd-size u v l zero o = odd-plus u v l o
@@ -92,24 +92,24 @@ unshifted : (L m r c : ℕ) → Outcome L m r c → m % 2 ≡ 1 → c ≡ m
 unshifted L m r c k o = k .value ∙ ap (λ z. m / 2 ^ z) (k .shift ∙ zeros-of-odd m o) ∙ omega arith
 
 sided : (L u v j s c : ℕ) → j ≤ L → c ≡ size u v 0 j s → Balance L v c u
-sided L u v j zero c h e = difference j h (omega (arith, mul-comm v (2 ^ j)))
+sided L u v j zero c h e = minus-is j h (omega (arith, mul-comm v (2 ^ j)))
 sided L u v j (suc s) c h e = go (decLe u (2 ^ j * v))
   where
     go : Dec (u ≤ 2 ^ j * v) → Balance L v c u
-    go (yes q) = sum j h (omega (arith, mul-comm v (2 ^ j)))
-    go (no q) = difference j h (omega (arith, mul-comm v (2 ^ j)))
+    go (yes q) = plus-is j h (omega (arith, mul-comm v (2 ^ j)))
+    go (no q) = minus-is j h (omega (arith, mul-comm v (2 ^ j)))
 
 level : (L u v s r c : ℕ) → u < 2 ^ L → v < 2 ^ L → Outcome L (size u v 0 0 s) r c → Balance L c u v
 level L u v zero r c a b k =
     let x = exact-of L _ r c k in
     let o = x .odd in
     let e : c * 2 ^ r ≡ u + v = sym (x .whole) ∙ omega arith in
-    sum r (low-shift L c r (u + v) e (omega arith) (omega arith)) e
+    plus-is r (low-shift L c r (u + v) e (omega arith) (omega arith)) e
 level L u v (suc s) r c a b k =
     let x = exact-of L _ r c k in
     let o = x .odd in
-    let e : c * 2 ^ r ≡ gap u v = sym (x .whole) ∙ omega arith in
-    difference r (low-shift L c r (gap u v) e (omega arith) (omega arith)) e
+    let e : c * 2 ^ r ≡ difference u v = sym (x .whole) ∙ omega arith in
+    minus-is r (low-shift L c r (difference u v) e (omega arith) (omega arith)) e
 
 balanced-valid : (L u v l1 l2 s r c : ℕ) → Odd L u → Odd L v → Valid L u v l1 l2 s r c → Balanced L u v c
 balanced-valid L u v zero zero s r c a b k = inl (level L u v s r c (a .1) (b .1) (k .outcome))
@@ -143,12 +143,12 @@ gives L u v l s r c h q o e =
     }
 
 gives-level : (L u v c : ℕ) → Odd L c → Balance L c u v → Gives L u v c
-gives-level L u v c o (sum j h e) = gives L u v 0 0 j c (omega arith) (omega arith) o (omega arith)
-gives-level L u v c o (difference j h e) = gives L u v 0 1 j c (omega arith) (omega arith) o (omega arith)
+gives-level L u v c o (plus-is j h e) = gives L u v 0 0 j c (omega arith) (omega arith) o (omega arith)
+gives-level L u v c o (minus-is j h e) = gives L u v 0 1 j c (omega arith) (omega arith) o (omega arith)
 
 gives-side : (L u v c : ℕ) → Odd L c → Balance L v c u → Gives L u v c
-gives-side L u v c o (sum j h e) = gives L u v j 1 0 c h (omega arith) o (omega (arith, mul-comm v (2 ^ j)))
-gives-side L u v c o (difference j h e) = go (decLe c u)
+gives-side L u v c o (plus-is j h e) = gives L u v j 1 0 c h (omega arith) o (omega (arith, mul-comm v (2 ^ j)))
+gives-side L u v c o (minus-is j h e) = go (decLe c u)
   where
     go : Dec (c ≤ u) → Gives L u v c
     go (yes q) = gives L u v j 1 0 c h (omega arith) o (omega (arith, mul-comm v (2 ^ j)))

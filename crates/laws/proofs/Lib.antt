@@ -1,4 +1,6 @@
 -- The laws of the definitions.
+pub mod Integers
+pub mod Signed
 pub mod Tests
 pub mod Zeros
 pub mod Apart

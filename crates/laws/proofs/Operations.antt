@@ -11,7 +11,7 @@ use lib.IntN.{ℤ, pos, negsuc, natAbs, _-ℤ_}
 use lib.Pow.{pow-pos}
 use Rattle.meaning.specs.declared.Operated.{Operated}
 use Rattle.meaning.specs.declared.Operated.the-variants.{Made, Invalid}
-use Rattle.meaning.specs.Basics.{gap, zeros}
+use Rattle.meaning.specs.Basics.{difference, zeros}
 use Rattle.meaning.specs.Operation.{whole, size, Outcome, Valid, outcomeTests, outcome?, validTests, valid?, operated}
 use Rattle.laws.proofs.Tests.{all-of, of-all, eq→eqb, true-of, T-of}
 use Rattle.laws.proofs.Zeros.{zeros-whole, zeros-left, zeros-unique}
@@ -50,11 +50,11 @@ module _ (L u v l1 l2 s r c : ℕ) where
 
 -- ---- |n|
 
-pub abs-minus : (a b : ℕ) → natAbs (pos a -ℤ pos b) ≡ gap a b
+pub abs-minus : (a b : ℕ) → natAbs (pos a -ℤ pos b) ≡ difference a b
 abs-minus a zero = omega arith
 abs-minus a (suc b) = go (ltb a (suc b)) refl
   where
-    go : (t : Bool) → ltb a (suc b) ≡ t → natAbs (cond t (negsuc (suc b - suc a)) (pos (a - suc b))) ≡ gap a (suc b)
+    go : (t : Bool) → ltb a (suc b) ≡ t → natAbs (cond t (negsuc (suc b - suc a)) (pos (a - suc b))) ≡ difference a (suc b)
     go true e = omega (arith, ltb-true a (suc b) e)
     go false e = omega (arith, ltb-false a (suc b) e)
 

@@ -8,7 +8,7 @@ use native.Mathlib.Numerals.{add-one}
 use lib.ListN.{length, take, drop, getD, set, length-append, length-drop, length-map, take-append-drop}
 use lib.Seq.{take-at, drop-at, drop-drop, take-suc, take-length, length-take-le, sets, sets-eq}
 use Rattle.meaning.specs.declared.Row.{Row}
-use Rattle.meaning.specs.Basics.{over, after}
+use Rattle.meaning.specs.Basics.{over, overAt}
 use Rattle.meaning.specs.Graph.{rowLength, rowAt, rows}
 use Rattle.laws.proofs.Graphs.{length-rows, rows-more}
 
@@ -24,21 +24,21 @@ module _ {A : Type 0} where
   pub over-at : (new old : List A) (v : A) (i : ℕ) → length new ≡ i → i < length old → set (over new old) i v ≡ over (new ++ (v ∷ [])) old
   over-at new old v i e h = ap (λ j. set (over new old) j v) (sym e) ∙ over-next new old v (rw e h)
 
-  -- what is written from place n on, after a front of n
-  pub over-part : (new more old : List A) (n : ℕ) → length new ≡ n → after n more (over new old) ≡ over (new ++ more) old
-  unfolding over after
+  -- what is written from place n on, overAt a front of n
+  pub over-part : (new more old : List A) (n : ℕ) → length new ≡ n → overAt n more (over new old) ≡ over (new ++ more) old
+  unfolding over overAt
   over-part new more old n e =
       rw (take-at new (drop (length new) old) n e, drop-at new (drop (length new) old) n e, drop-drop (length more) (length new) old, length-append new more)
       (sym (append-assoc new more (drop (length new + length more) old)))
 
-  pub length-after : (n : ℕ) (new old : List A) → n + length new ≤ length old → length (after n new old) ≡ length old
-  unfolding after over
-  length-after n new old h = simp (length-append, length-drop, length-take-le n old (omega arith)) (omega arith)
+  pub length-over-at : (n : ℕ) (new old : List A) → n + length new ≤ length old → length (overAt n new old) ≡ length old
+  unfolding overAt over
+  length-over-at n new old h = simp (length-append, length-drop, length-take-le n old (omega arith)) (omega arith)
 
   -- the same behind what was written from place n on
-  pub after-part : (n m : ℕ) (new more old : List A) → n ≤ length old → n + length new ≡ m → after m more (after n new old) ≡ after n (new ++ more) old
-  unfolding after over
-  after-part n m new more old h e =
+  pub over-at-part : (n m : ℕ) (new more old : List A) → n ≤ length old → n + length new ≡ m → overAt m more (overAt n new old) ≡ overAt n (new ++ more) old
+  unfolding overAt over
+  over-at-part n m new more old h e =
       rw (take-two, drop-two) (append-assoc (take n old) new _ ∙ ap (λ l. take n old ++ l) (ap (λ l. new ++ (more ++ l)) rest ∙ sym (append-assoc new more _)))
     where
       front : List A
@@ -56,26 +56,26 @@ module _ {A : Type 0} where
       rest : drop (length more) (drop (length new) (drop n old)) ≡ drop (length (new ++ more)) (drop n old)
       rest = drop-drop (length more) (length new) (drop n old) ∙ ap (λ k. drop k (drop n old)) (sym (length-append new more))
 
-  pub after-none : (n : ℕ) (old : List A) → after n [] old ≡ old
-  unfolding after over
-  after-none n old = take-append-drop n old
+  pub over-at-none : (n : ℕ) (old : List A) → overAt n [] old ≡ old
+  unfolding overAt over
+  over-at-none n old = take-append-drop n old
 
   set-append-add : (xs ys : List A) (i : ℕ) (v : A) → set (xs ++ ys) (length xs + i) v ≡ xs ++ set ys i v
   set-append-add [] ys i v = ap (λ j. set ys j v) (omega arith)
   set-append-add (x ∷ xs) ys i v = ap (λ j. set (x ∷ (xs ++ ys)) j v) (suc-add (length xs) i) ∙ ap (λ l. x ∷ l) (set-append-add xs ys i v)
 
   -- the next place, from place n on
-  pub after-at : (n : ℕ) (new old : List A) (v : A) (i : ℕ) → length new ≡ i → n + i < length old → set (after n new old) (n + i) v ≡ after n (new ++ (v ∷ [])) old
-  unfolding after
-  after-at n new old v i e h =
+  pub over-at-set : (n : ℕ) (new old : List A) (v : A) (i : ℕ) → length new ≡ i → n + i < length old → set (overAt n new old) (n + i) v ≡ overAt n (new ++ (v ∷ [])) old
+  unfolding overAt
+  over-at-set n new old v i e h =
       ap (λ j. set (take n old ++ over new (drop n old)) (j + i) v) (sym (length-take-le n old (omega arith)))
       ∙ set-append-add (take n old) (over new (drop n old)) i v
       ∙ ap (λ l. take n old ++ l) (over-at new (drop n old) v i e (simp length-drop (omega arith)))
 
-  -- stores one after the other
-  pub after-sets : (at : ℕ) (vs old : List A) → at + length vs ≤ length old → sets old at vs ≡ after at vs old
-  unfolding after over
-  after-sets at vs old h =
+  -- stores one overAt the other
+  pub over-at-sets : (at : ℕ) (vs old : List A) → at + length vs ≤ length old → sets old at vs ≡ overAt at vs old
+  unfolding overAt over
+  over-at-sets at vs old h =
       sets-eq vs old at h ∙ ap (λ l. take at old ++ vs ++ l) (sym (drop-drop (length vs) at old)) ∙ append-assoc (take at old) vs (drop (length vs) (drop at old))
 
 -- the rows' part of what a loop over the rows writes
@@ -102,9 +102,9 @@ module _ {A B : Type 0} (f : A → B) where
       → set (over (map f (take i xs)) old) i (f (getD xs i d)) ≡ over (map f (take (i + 1) xs)) old
   over-more xs d old i k h = over-at (map f (take i xs)) old (f (getD xs i d)) i (count xs i k) (omega arith) ∙ ap (λ l. over l old) (passed xs d i k)
 
-  pub after-more : (xs : List A) (d : A) (n : ℕ) (old : List B) (i : ℕ) → i < length xs → n + i < length old
-      → set (after n (map f (take i xs)) old) (n + i) (f (getD xs i d)) ≡ after n (map f (take (i + 1) xs)) old
-  after-more xs d n old i k h = after-at n (map f (take i xs)) old (f (getD xs i d)) i (count xs i k) h ∙ ap (λ l. after n l old) (passed xs d i k)
+  pub over-at-more : (xs : List A) (d : A) (n : ℕ) (old : List B) (i : ℕ) → i < length xs → n + i < length old
+      → set (overAt n (map f (take i xs)) old) (n + i) (f (getD xs i d)) ≡ overAt n (map f (take (i + 1) xs)) old
+  over-at-more xs d n old i k h = over-at-set n (map f (take i xs)) old (f (getD xs i d)) i (count xs i k) h ∙ ap (λ l. overAt n l old) (passed xs d i k)
 
   pub over-end : (xs : List A) (old : List B) (i : ℕ) → i ≡ length xs → over (map f (take i xs)) old ≡ over (map f xs) old
   over-end xs old i e = ap (λ l. over (map f l) old) (ap (λ n. take n xs) e ∙ take-length xs)

@@ -16,13 +16,13 @@ use lib.Signed.{quotZ, nonNeg}
 use lib.Pow.{pow-pos, pow-mono}
 use lib.ListN.{length, getD, drop, drop-of-length-le, List·getD-map}
 use lib.Seq.{drop-cons}
-use Rattle.numbers.proofs.Integers.{add-mul, sub-mul, neg-mul, mul-assocℤ, quot-exact}
+use Rattle.laws.proofs.Integers.{add-mul, sub-mul, neg-mul, mul-assocℤ, quot-exact}
 use Rattle.meaning.specs.declared.Row.{Row}
 use Rattle.meaning.specs.Basics.{every, has, indexFrom}
 use Rattle.meaning.specs.Constants.{signOf, shiftOf, oddOf, apart}
 use Rattle.meaning.specs.Operation.{whole, size, Outcome, Valid}
 use Rattle.meaning.specs.Graph.{rowLength, rowAt, rows, values, ready, Fits, Sound, served?, outputIndex}
-use Rattle.meaning.specs.Products.{turned?, joined, turnedBy, rowProduct, productsFrom, products, targetProduct, targetProducts}
+use Rattle.meaning.specs.Products.{negative?, joined, negatedIf, rowProduct, productsFrom, products, targetProduct, targetProducts}
 use Rattle.laws.proofs.Tests.{both-of, either-of, of-left, of-right, eq→eqb, T-of}
 use Rattle.laws.proofs.Zeros.{zeros-left, zeros-of-odd, zeros-low}
 use Rattle.laws.proofs.Apart.{apart-whole}
@@ -44,9 +44,9 @@ module _ (x : ℤ) where
   joined-is u v l1 l2 (suc s) = rw (term l1 u, term l2 v) (sym (sub-mul (pos (2 ^ l1 * u)) (pos (2 ^ l2 * v)) x))
 
   -- turned where n is negative, they are |n| times x
-  turned-is : (n : ℤ) → turnedBy (not (nonNeg n)) (n *ℤ x) ≡ times (natAbs n)
-  turned-is (pos n) = refl
-  turned-is (negsuc n) = sym (neg-mul (negsuc n) x)
+  negated-is : (n : ℤ) → negatedIf (not (nonNeg n)) (n *ℤ x) ≡ times (natAbs n)
+  negated-is (pos n) = refl
+  negated-is (negsuc n) = sym (neg-mul (negsuc n) x)
 
   quotient : (c d : ℕ) → 0 < d → quotZ (times (c * d)) (pos d) ≡ times c
   quotient c d h =
@@ -69,9 +69,9 @@ less-negative a (suc b) = go (ltb a (suc b))
     go false = refl
 
 -- what the definition turns by is the sign of n
-pub turned-negative : (u v l1 l2 s : ℕ) → turned? u v l1 l2 s ≡ not (nonNeg (whole u v l1 l2 s))
-turned-negative u v l1 l2 zero = refl
-turned-negative u v l1 l2 (suc s) = less-negative (2 ^ l1 * u) (2 ^ l2 * v)
+pub negative-is : (u v l1 l2 s : ℕ) → negative? u v l1 l2 s ≡ not (nonNeg (whole u v l1 l2 s))
+negative-is u v l1 l2 zero = refl
+negative-is u v l1 l2 (suc s) = less-negative (2 ^ l1 * u) (2 ^ l2 * v)
 
 -- a valid row's product is its value times x, where its operands' products are
 pub row-is : (L : ℕ) (vals : List ℕ) (y : Row) (x : ℤ) → Fits L vals y → rowProduct vals (map (times x) vals) y ≡ pos (y .value) *ℤ x
@@ -82,9 +82,9 @@ row-is L vals y x f =
     rw (
       product-at x vals (y .u),
       product-at x vals (y .v),
-      turned-negative u v (y .l1) (y .l2) (y .s),
+      negative-is u v (y .l1) (y .l2) (y .s),
       joined-is x u v (y .l1) (y .l2) (y .s),
-      turned-is x (whole u v (y .l1) (y .l2) (y .s)),
+      negated-is x (whole u v (y .l1) (y .l2) (y .s)),
       size-is u v (y .l1) (y .l2) (y .s),
       exact-of L _ _ _ (f .operation .outcome) .whole,
     )

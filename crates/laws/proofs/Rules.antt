@@ -11,7 +11,7 @@ use Rattle.meaning.specs.Basics.{andThen}
 use Rattle.meaning.specs.Graph.{Fits}
 use Rattle.meaning.specs.Distance.{reach?, serves?, candidates}
 use Rattle.meaning.specs.Digits.{prefixes}
-use Rattle.meaning.specs.Generator.{rowFor, ruleA, trials, serve, ruleB, ruleC, orRows, turn}
+use Rattle.meaning.specs.Generator.{rowFor, ruleA, trials, serve, ruleB, ruleC, orElse, turn}
 use Rattle.laws.proofs.Reach.{reach-same}
 use Rattle.laws.proofs.Choices.{got, some-same, first-from, first-got, then-from, then-got, row-from, got-row}
 
@@ -123,10 +123,10 @@ module _ {ℓ} (P : List Row → Type ℓ) (L : ℕ) (vals : List ℕ) (c : ℕ)
     (by-b : (new : List Row) → ruleA L vals (c ∷ cs) ≡ none → ruleB L vals (c ∷ cs) ≡ some new → P new)
     (by-c : ruleA L vals (c ∷ cs) ≡ none → ruleB L vals (c ∷ cs) ≡ none → P (ruleC vals (prefixes c))) where
   pub turn-by : P (turn L vals (c ∷ cs))
-  unfolding turn orRows
+  unfolding turn orElse
   turn-by = go (ruleA L vals (c ∷ cs)) (ruleB L vals (c ∷ cs)) refl refl
     where
-      go : (a b : Option (List Row)) → ruleA L vals (c ∷ cs) ≡ a → ruleB L vals (c ∷ cs) ≡ b → P (orRows a (orRows b (ruleC vals (prefixes c))))
+      go : (a b : Option (List Row)) → ruleA L vals (c ∷ cs) ≡ a → ruleB L vals (c ∷ cs) ≡ b → P (orElse a (orElse b (ruleC vals (prefixes c))))
       go none none e f = by-c e f
       go none (some y) e f = by-b y e f
       go (some x) b e f = by-a x e

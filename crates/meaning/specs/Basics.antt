@@ -7,8 +7,8 @@ use lib.Dec.{eqb}
 use lib.ListN.{length, take, drop}
 
 -- a - b or b - a, whichever is not negative
-abbrev pub gap : ℕ → ℕ → ℕ
-gap a b = (a - b) + (b - a)
+abbrev pub difference : ℕ → ℕ → ℕ
+difference a b = (a - b) + (b - a)
 
 -- some member passes
 abbrev pub any {ℓ} : {A : Type ℓ} → (A → Bool) → List A → Bool
@@ -58,8 +58,8 @@ unfoldable pub over {ℓ} : {A : Type ℓ} → List A → List A → List A
 over new old = new ++ drop (length new) old
 
 -- the same from place n on
-unfoldable pub after {ℓ} : {A : Type ℓ} → ℕ → List A → List A → List A
-after n new old = take n old ++ over new (drop n old)
+unfoldable pub overAt {ℓ} : {A : Type ℓ} → ℕ → List A → List A → List A
+overAt n new old = take n old ++ over new (drop n old)
 
 -- the trailing zero bits of n, counted in at most k halvings
 unfoldable pub zerosIn : ℕ → ℕ → ℕ

@@ -67,14 +67,14 @@ ruleC vals [] = []
 ruleC vals (p ∷ ps) =
     cond (has vals (p .value)) (ruleC vals ps) (prefixRow vals p ∷ ruleC (vals ++ (p .value ∷ [])) ps)
 
-unfoldable pub orRows : Option (List Row) → List Row → List Row
-orRows none other = other
-orRows (some new) other = new
+unfoldable pub orElse : Option (List Row) → List Row → List Row
+orElse none other = other
+orElse (some new) other = new
 
 -- one turn: the rows that it adds for the constants that remain, ascending; A, else B, else C for the smallest
 unfoldable pub turn : ℕ → List ℕ → List ℕ → List Row
 turn L vals [] = []
-turn L vals (c ∷ cs) = orRows (ruleA L vals (c ∷ cs)) (orRows (ruleB L vals (c ∷ cs)) (ruleC vals (prefixes c)))
+turn L vals (c ∷ cs) = orElse (ruleA L vals (c ∷ cs)) (orElse (ruleB L vals (c ∷ cs)) (ruleC vals (prefixes c)))
 
 -- a turn makes one of them ready or more, so that as many turns as there are constants are enough
 unfoldable pub turns : ℕ → ℕ → List ℕ → List Row → List Row

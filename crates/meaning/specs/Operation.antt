@@ -7,7 +7,7 @@ use lib.Dec.{leb, ltb, eqb}
 use lib.IntN.{ℤ, pos, _+ℤ_, _-ℤ_}
 use Rattle.meaning.specs.declared.Operated.{Operated}
 use Rattle.meaning.specs.declared.Operated.the-variants.{Made, Invalid}
-use Rattle.meaning.specs.Basics.{gap, all, zeros}
+use Rattle.meaning.specs.Basics.{difference, all, zeros}
 use Rattle.meaning.specs.Limits.{limit}
 
 -- n = 2^l1 × u + (-1)^s × 2^l2 × v
@@ -18,7 +18,7 @@ whole u v l1 l2 (suc s) = pos (2 ^ l1 * u) -ℤ pos (2 ^ l2 * v)
 -- |n|
 abbrev pub size : (u v l1 l2 s : ℕ) → ℕ
 size u v l1 l2 zero = 2 ^ l1 * u + 2 ^ l2 * v
-size u v l1 l2 (suc s) = gap (2 ^ l1 * u) (2 ^ l2 * v)
+size u v l1 l2 (suc s) = difference (2 ^ l1 * u) (2 ^ l2 * v)
 
 -- what |n| = m comes to: n is not 0, r is the count of m's trailing zero bits, and the value c = m / 2^r is below 2^L
 pub record Outcome (L m r c : ℕ) : Type 0 where

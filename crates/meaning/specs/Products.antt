@@ -11,9 +11,9 @@ use Rattle.meaning.specs.Constants.{signOf, shiftOf}
 use Rattle.meaning.specs.Graph.{outputIndex}
 
 -- n is negative: s is 1 and 2^l1 u is less than 2^l2 v
-abbrev pub turned? : (u v l1 l2 s : ℕ) → Bool
-turned? u v l1 l2 zero = false
-turned? u v l1 l2 (suc s) = ltb (2 ^ l1 * u) (2 ^ l2 * v)
+abbrev pub negative? : (u v l1 l2 s : ℕ) → Bool
+negative? u v l1 l2 zero = false
+negative? u v l1 l2 (suc s) = ltb (2 ^ l1 * u) (2 ^ l2 * v)
 
 -- 2^l1 p + (-1)^s 2^l2 q
 abbrev pub joined : ℤ → ℤ → (l1 l2 s : ℕ) → ℤ
@@ -21,15 +21,15 @@ joined p q l1 l2 zero = pos (2 ^ l1) *ℤ p +ℤ pos (2 ^ l2) *ℤ q
 joined p q l1 l2 (suc s) = pos (2 ^ l1) *ℤ p -ℤ pos (2 ^ l2) *ℤ q
 
 -- where n is negative the difference is negated, whatever the sign of x
-abbrev pub turnedBy : Bool → ℤ → ℤ
-turnedBy true z = negℤ z
-turnedBy false z = z
+abbrev pub negatedIf : Bool → ℤ → ℤ
+negatedIf true z = negℤ z
+negatedIf false z = z
 
 -- a row's product, from the values and the products of the indices below
 unfoldable pub rowProduct : List ℕ → List ℤ → Row → ℤ
 rowProduct vals ps x =
     quotZ
-    (turnedBy (turned? (getD vals (x .u) 0) (getD vals (x .v) 0) (x .l1) (x .l2) (x .s))
+    (negatedIf (negative? (getD vals (x .u) 0) (getD vals (x .v) 0) (x .l1) (x .l2) (x .s))
     (joined (getD ps (x .u) (pos 0)) (getD ps (x .v) (pos 0)) (x .l1) (x .l2) (x .s)))
     (pos (2 ^ x .r))
 

@@ -213,20 +213,20 @@ rankingWritten b ts n w input room = given (ranked b ts n w input room) (ranking
 unfoldable pub drawn : ℕ → List ℤ → ℕ → Answer
 drawn b ts room = firstOf (generateOrder b ts room)
 
-abbrev pub orRows : Answer → ℕ → Drawn
-orRows Accepted n = out.Rows n
-orRows (Refused why) n = out.Refused why
+abbrev pub drawnAs : Answer → ℕ → Drawn
+drawnAs Accepted n = out.Rows n
+drawnAs (Refused why) n = out.Refused why
 
 -- how many rows were drawn
 unfoldable pub drawnTold : ℕ → List ℤ → ℕ → Drawn
-drawnTold b ts room = orRows (drawn b ts room) (length (generated b ts))
+drawnTold b ts room = drawnAs (drawn b ts room) (length (generated b ts))
 
 unfoldable pub rowsWritten : ℕ → List ℤ → ℕ → List ℕ
 rowsWritten b ts room = given (drawn b ts room) (flat (generated b ts))
 
-abbrev pub orFar : Answer → Far → Far
-orFar Accepted d = d
-orFar (Refused why) d = far.Refused why
+abbrev pub farAs : Answer → Far → Far
+farAs Accepted d = d
+farAs (Refused why) d = far.Refused why
 
 unfoldable pub distanceTold : ℕ → List ℕ → ℕ → Far
-distanceTold b vals c = orFar (firstOf (distanceOrder b vals c)) (distance (limit b) vals c)
+distanceTold b vals c = farAs (firstOf (distanceOrder b vals c)) (distance (limit b) vals c)

@@ -32,8 +32,8 @@ fn whole_of(u: u32, v: u32, l1: u32, l2: u32, s: u32) -> i64
     requires { ⌜ (l1 ≤ 30) × (l2 ≤ 30) ⌝ }
     ensures { λ r. ⌜ r ≡ whole u v l1 l2 s ⌝ }
 {
-    let a = shifts::shifted(u, l1) as i64;
-    let b = shifts::shifted(v, l2) as i64;
+    let a = arith::shifted(u, l1) as i64;
+    let b = arith::shifted(v, l2) as i64;
     if s == 0 {
         return a + b;
     }
@@ -45,7 +45,7 @@ fn outcome_of(limit: u32, n: i64) -> Operated
     requires { ⌜ limit ≤ 30 ⌝ }
     ensures { λ r. ⌜ r ≡ outcomeOf limit n ⌝ }
 {
-    let m = numbers::magnitude64(n);
+    let m = arith::magnitude64(n);
     if m == 0 {
         return Operated::Invalid;
     }
@@ -77,7 +77,7 @@ fn made(limit: u32, u: u32, v: u32, l1: u32, l2: u32, s: u32) -> Operated
 pub fn operate(b: u32, u: u32, v: u32, l1: u32, l2: u32, s: u32) -> Operated
     ensures { λ r. ⌜ r ≡ operatedUnder b u v l1 l2 s ⌝ }
 {
-    if !numbers::within(b as usize, 2, 16) {
+    if !arith::within(b as usize, 2, 16) {
         return Operated::Invalid;
     }
     made(b + 1, u, v, l1, l2, s)

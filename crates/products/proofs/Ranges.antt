@@ -11,7 +11,7 @@ use lib.ListN.{length, getD, length-map}
 use lib.Pow.{pow-mono}
 use mir.Syntax.{w32}
 use mir.Val.{SFits}
-use Rattle.numbers.proofs.Integers.{abs-mul}
+use Rattle.laws.proofs.Integers.{abs-mul}
 use Rattle.meaning.specs.declared.Row.{Row}
 use Rattle.meaning.specs.Basics.{zerosIn, zeros}
 use Rattle.meaning.specs.Constants.{signOf, shiftOf, oddOf}

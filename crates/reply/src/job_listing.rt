@@ -20,7 +20,7 @@ fn natural(z: i32) -> u32
     if z < 0 {
         return 0;
     }
-    numbers::magnitude(z)
+    arith::magnitude(z)
 }
 
 // The row numbers 1 to n, from the front.
@@ -89,7 +89,7 @@ fn sized(
     ensures { λ r. ⌜ Wrote textRoom (now (out .entry)) 0
         (replyTo (record { bits = bits; input = input; byWidth = «by_width»; targets = now (ts .entry) })) (now (out .exit)) r ⌝ }
 {
-    if !numbers::within(natural(input) as usize, 2, 32) {
+    if !arith::within(natural(input) as usize, 2, 32) {
         return writing::lines::refused(out, Refusal::Width);
     }
     list(out, bits, input, by_width, ts, words, n)

@@ -4,7 +4,7 @@ use meaning::Row;
 ghost use mathlib.Core.Path.{_≡_};
 ghost use Prim.Native.Nat.{_+_, _*_, _≤_};
 ghost use lib.ListN.{length, getD};
-ghost use Rattle.meaning.specs.Basics.{after, indexFrom};
+ghost use Rattle.meaning.specs.Basics.{overAt, indexFrom};
 ghost use Rattle.meaning.specs.Graph.{rowLength, words, rowAt, rows, ready};
 ghost use Rattle.meaning.specs.Refusals.{mostRows};
 
@@ -53,7 +53,7 @@ pub fn lowest(n: usize, words: &[u32], value: u32) -> usize
 // The row's words, written from a place on.
 pub fn put_row(out: &mut [u32], at: usize, x: Row)
     requires { ⌜ at + rowLength ≤ length (now out) ⌝ }
-    ensures { λ _. ⌜ now (out .exit) ≡ after at (words x) (now (out .entry)) ⌝ }
+    ensures { λ _. ⌜ now (out .exit) ≡ overAt at (words x) (now (out .entry)) ⌝ }
 {
     out[at] = x.u;
     out[at + 1] = x.v;

@@ -27,7 +27,7 @@ use Rattle.meaning.specs.Graph.{rowLength, rows, values, served?}
 use Rattle.meaning.specs.Generator.{generated}
 use Rattle.meaning.specs.Job.{Asked, Job, asks, malformed, jobOf, jobOrder, natural}
 use Rattle.meaning.specs.Listing.{rowOrder, answerOf, orRefused, replyTo, refusedLine, listing, jobText, printedTold, textWritten, textRoom}
-use Rattle.meaning.specs.Refusals.{need, needEach, mostRows, number, Done, given, orRows, orFar, firstOf, admitOrder, checkOrder, sizedOrder, productsOrder, widthsOrder, rankingOrder, generateOrder, distanceOrder, oddParts, buffer, rowCount, validRows, allServed, fewRows, inputWidth, readyValues, target, admitted, checked, multiplied, productsWritten, measured, widthsWritten, ranked, rankingWritten, drawn, drawnTold, rowsWritten, distanceTold}
+use Rattle.meaning.specs.Refusals.{need, needEach, mostRows, number, Done, given, drawnAs, farAs, firstOf, admitOrder, checkOrder, sizedOrder, productsOrder, widthsOrder, rankingOrder, generateOrder, distanceOrder, oddParts, buffer, rowCount, validRows, allServed, fewRows, inputWidth, readyValues, target, admitted, checked, multiplied, productsWritten, measured, widthsWritten, ranked, rankingWritten, drawn, drawnTold, rowsWritten, distanceTold}
 use Rattle.laws.proofs.Tests.{All, all-of, of-all, true-of, false-of, T-of, in-every, every-in, both-of, of-both, either-of, of-left, of-right, eq→eqb}
 use Rattle.laws.proofs.Ranking.{ranking-permutes, ranking-ordered}
 use Rattle.laws.proofs.ReadBack.{read-back}
@@ -223,12 +223,12 @@ job-told j =
 -- ---- answers of other shapes
 
 -- the generator's
-drawn-told : (a : Answer) (n : ℕ) (why : Refusal) → (orRows a n ≡ drew.Refused why) ↔ (a ≡ Refused why)
+drawn-told : (a : Answer) (n : ℕ) (why : Refusal) → (drawnAs a n ≡ drew.Refused why) ↔ (a ≡ Refused why)
 drawn-told Accepted n why = (λ e. absurd (let z : _≡_ {A = ℕ} 0 1 = cc in omega arith), λ e. never-both why e)
 drawn-told (Refused y) n why = (λ e. cc, λ e. ap drew.Refused (refused-same y why e))
 
 -- the distance is never a refusal by itself
-far-told : (a : Answer) (d : Far) (why : Refusal) → ((y : Refusal) → ¬ (d ≡ far.Refused y)) → (orFar a d ≡ far.Refused why) ↔ (a ≡ Refused why)
+far-told : (a : Answer) (d : Far) (why : Refusal) → ((y : Refusal) → ¬ (d ≡ far.Refused y)) → (farAs a d ≡ far.Refused why) ↔ (a ≡ Refused why)
 far-told Accepted d why n = (λ e. absurd (n why e), λ e. never-both why e)
 far-told (Refused y) d why n = (λ e. cc, λ e. ap far.Refused (refused-same y why e))
 

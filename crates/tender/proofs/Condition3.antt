@@ -17,9 +17,9 @@ use Rattle.laws.proofs.Generated.{call-of, call-accepted}
 use Rattle.laws.proofs.Remaining.{generated-few}
 use Rattle.laws.proofs.Shortest.{fewest}
 use Rattle.laws.proofs.Distances.{distance-zero, distance-one, distance-two, distance-beyond, distance-told}
-use Rattle.tender.specs.Condition3.{OddPart, Condition3}
+use Rattle.tender.specs.Condition3.{WantedPart, Condition3}
 
-wanted-are : (ts : List ℤ) (c : ℕ) → List·Memᴰ c (wanted ts) ↔ OddPart ts c
+wanted-are : (ts : List ℤ) (c : ℕ) → List·Memᴰ c (wanted ts) ↔ WantedPart ts c
 wanted-are ts c = (
   λ i. let (t, j, e, h) = wanted-in ts c i in record { target = t; listed = j; part = e; above = h },
   λ o. subst (λ z. List·Memᴰ z (wanted ts)) (o .part) (in-wanted ts (o .target) (o .listed) (subst (λ z. 1 < z) (sym (o .part)) (o .above))),

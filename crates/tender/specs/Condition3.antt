@@ -15,7 +15,7 @@ use Rattle.meaning.specs.Digits.{Canonic, canonic, nonzeros, csdSum}
 use Rattle.meaning.specs.Refusals.{checked, Done, drawnTold, rowsWritten, firstOf, distanceOrder, distanceTold}
 
 -- c is one of the distinct odd parts greater than one
-pub record OddPart (ts : List ℤ) (c : ℕ) : Type 0 where
+pub record WantedPart (ts : List ℤ) (c : ℕ) : Type 0 where
   pub target : ℤ
   pub listed : List·Memᴰ target ts
   pub part : oddOf target ≡ c
@@ -30,7 +30,7 @@ pub record Condition3 : Type 0 where
   pub accepted : (b : ℕ) (ts : List ℤ) (n : ℕ) (before now : List ℕ) → Generates b ts n before now → checked b ts n now ≡ Accepted
   -- they are never more than the sum, over the distinct odd parts greater than one, of the nonzero canonic digits less one each
   pub few-rows : (b : ℕ) (ts : List ℤ) (n : ℕ) (before now : List ℕ) → Generates b ts n before now → n ≤ csdSum (wanted ts)
-  pub wanted-are : (ts : List ℤ) (c : ℕ) → List·Memᴰ c (wanted ts) ↔ OddPart ts c
+  pub wanted-are : (ts : List ℤ) (c : ℕ) → List·Memᴰ c (wanted ts) ↔ WantedPart ts c
   pub wanted-once : (ts : List ℤ) → Ascending (wanted ts)
   pub canonic-is : (c : ℕ) → Canonic c (canonic c)
   -- with exactly one such odd part, of at most four nonzero digits, no accepted graph under the same bit limit has fewer rows

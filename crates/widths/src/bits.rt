@@ -30,7 +30,7 @@ pub fn output_width(t: i32, input: u32) -> u32
     requires { ⌜ input ≤ 32 ⌝ }
     ensures { λ r. ⌜ r ≡ outputWidth input t ⌝ }
 {
-    let m = numbers::magnitude(t);
+    let m = arith::magnitude(t);
     if m == 0 {
         return 1;
     }

@@ -7,7 +7,7 @@ ghost use mathlib.Core.Path.{_≡_};
 ghost use mathlib.Core.List.{map};
 ghost use Prim.Native.Nat.{_+_, _*_, _≤_};
 ghost use lib.ListN.{length};
-ghost use Rattle.meaning.specs.Basics.{over, after};
+ghost use Rattle.meaning.specs.Basics.{over, overAt};
 ghost use Rattle.meaning.specs.Graph.{rowLength, rows};
 ghost use Rattle.meaning.specs.Widths.{rowWidth, outputWidth};
 ghost use Rattle.meaning.specs.Refusals.{Done, measured, widthsWritten};
@@ -27,7 +27,7 @@ fn row_widths(words: &[u32], n: usize, input: u32, out: &mut [u32])
 // The outputs' widths, in the order of the targets, from a place on.
 fn output_widths(ts: &[i32], input: u32, from: usize, out: &mut [u32])
     requires { ⌜ (input ≤ 32) × (from + length (now ts) ≤ length (now out)) ⌝ }
-    ensures { λ _. ⌜ now (out .exit) ≡ after from (map (outputWidth input) (now (ts .entry))) (now (out .entry)) ⌝ }
+    ensures { λ _. ⌜ now (out .exit) ≡ overAt from (map (outputWidth input) (now (ts .entry))) (now (out .entry)) ⌝ }
 {
     let mut i = 0;
     while i < ts.len() {

@@ -35,9 +35,9 @@ fn signed(out: &mut [u8], at: usize, z: i32) -> usize
 {
     if z < 0 {
         out[at] = 45;
-        return natural(out, at + 1, numbers::magnitude(z));
+        return natural(out, at + 1, arith::magnitude(z));
     }
-    natural(out, at, numbers::magnitude(z))
+    natural(out, at, arith::magnitude(z))
 }
 
 // A name and a number.

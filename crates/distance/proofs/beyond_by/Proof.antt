@@ -9,7 +9,7 @@ use lib.Seq.{take-length}
 use Rattle.meaning.specs.declared.Far.the-variants.{One, Two, Beyond}
 use Rattle.meaning.specs.Basics.{any, has}
 use Rattle.meaning.specs.Distance.{reach?, serves?, candidates, distance}
-use Rattle.reach.proofs.Marks.{reached-is}
+use Rattle.search.proofs.Marks.{reached-is}
 use Rattle.distance.proofs.beyond_by.Statement.{statement}
 use Rattle.distance.proofs.beyond_by.Tie as tie
 
@@ -28,20 +28,20 @@ module _ (L : ℕ) (vals : List ℕ) (c : ℕ) (away : has vals c ≡ false) whe
   beyond e f = rw (away, e, f)
 
 -- what the calls say of the whole list
-one-is : (c : tie.After-reached) → let a = c .before .before .before .before .before .before .before .before .args in c .reached .result ≡ reach? (a .top) (a .vals .now) (a .c)
+one-is : (c : tie.After-reached) → let a = c .before .before .before .before .before .before .before .before .args in c .reached .result ≡ reach? (a .limit) (a .vals .now) (a .c)
 one-is c =
     let f = c .before .before .before .before in
     let st = f .before .before .before .before in
     let a = st .args in
     c .reached .ensures
-    ∙ reached-is (a .top) (f .fill .last .0) (a .vals .now) (length (a .vals .now)) (a .c) (f .fill .ensures) (st .pre .2 .0) (st .pre .2 .1)
-    ∙ ap (λ (xs : List ℕ). reach? (a .top) xs (a .c)) (take-length (a .vals .now))
+    ∙ reached-is (a .limit) (f .fill .last .0) (a .vals .now) (length (a .vals .now)) (a .c) (f .fill .ensures) (st .pre .2 .0) (st .pre .2 .1)
+    ∙ ap (λ (xs : List ℕ). reach? (a .limit) xs (a .c)) (take-length (a .vals .now))
 
 two-is : (c : tie.After-served) → let a = c .before .before .before .before .before .before .before .before .before .before .before .args in
-    c .served .result ≡ any (serves? (a .top) (a .vals .now) (a .c)) (1 ∷ candidates (a .top))
+    c .served .result ≡ any (serves? (a .limit) (a .vals .now) (a .c)) (1 ∷ candidates (a .limit))
 two-is c =
     let a = c .before .before .before .before .before .before .before .before .before .before .before .args in
-    subst (λ (xs : List ℕ). c .served .result ≡ any (serves? (a .top) xs (a .c)) (1 ∷ candidates (a .top))) (take-length (a .vals .now)) (c .served .ensures)
+    subst (λ (xs : List ℕ). c .served .result ≡ any (serves? (a .limit) xs (a .c)) (1 ∷ candidates (a .limit))) (take-length (a .vals .now)) (c .served .ensures)
 
 fill-requires : tie.Need-fill-requires
 fill-requires c κs = search needs
@@ -56,7 +56,7 @@ returns : tie.Need-returns
 returns c =
     let st = c .before .before .before .before .before .before .before .before .before in
     let a = st .args in
-    one (a .top) (a .vals .now) (a .c) (st .pre .3) (sym (one-is (c .before)) ∙ c .if1 .taken)
+    one (a .limit) (a .vals .now) (a .c) (st .pre .3) (sym (one-is (c .before)) ∙ c .if1 .taken)
 
 served-requires : tie.Need-served-requires
 served-requires c κs =
@@ -65,7 +65,7 @@ served-requires c κs =
     let a = st .args in (
       f .fill .ensures,
       st .pre .2,
-      ap (λ (xs : List ℕ). reach? (a .top) xs (a .c)) (take-length (a .vals .now)) ∙ sym (one-is (c .before .before)) ∙ c .before .if1 .left,
+      ap (λ (xs : List ℕ). reach? (a .limit) xs (a .c)) (take-length (a .vals .now)) ∙ sym (one-is (c .before .before)) ∙ c .before .if1 .left,
     )
 
 same-length-2 : tie.Need-same-length-2
@@ -76,7 +76,7 @@ returns-2 c =
     let e = c .before .before .before in
     let st = e .before .before .before .before .before .before .before .before .before in
     let a = st .args in
-    two (a .top) (a .vals .now) (a .c) (st .pre .3) (sym (one-is (e .before)) ∙ e .if1 .left) (sym (two-is (c .before)) ∙ c .if2 .taken)
+    two (a .limit) (a .vals .now) (a .c) (st .pre .3) (sym (one-is (e .before)) ∙ e .if1 .left) (sym (two-is (c .before)) ∙ c .if2 .taken)
 
 same-length-3 : tie.Need-same-length-3
 same-length-3 c = search needs
@@ -86,7 +86,7 @@ returns-3 c =
     let e = c .before .before .before in
     let st = e .before .before .before .before .before .before .before .before .before in
     let a = st .args in
-    beyond (a .top) (a .vals .now) (a .c) (st .pre .3) (sym (one-is (e .before)) ∙ e .if1 .left) (sym (two-is (c .before)) ∙ c .if2 .left)
+    beyond (a .limit) (a .vals .now) (a .c) (st .pre .3) (sym (one-is (e .before)) ∙ e .if1 .left) (sym (two-is (c .before)) ∙ c .if2 .left)
 
 pub beyond-by-spec : {M : Type 1} → statement M
 beyond-by-spec =

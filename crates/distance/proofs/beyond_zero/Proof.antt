@@ -1,7 +1,7 @@
 -- `beyond_zero` meets its contract: each map of zeros has a byte for each odd number, and is that of no value. Assumes nothing.
 use native.Mathlib.Omega.{arith}
 use borrow.Author.Needs.{needs}
-use Rattle.reach.proofs.Marks.{start-of}
+use Rattle.search.proofs.Marks.{start-of}
 use Rattle.distance.proofs.beyond_zero.Statement.{statement}
 use Rattle.distance.proofs.beyond_zero.Tie as tie
 
@@ -12,7 +12,7 @@ beyond-by-requires : tie.Need-beyond-by-requires
 beyond-by-requires c κs =
     let st = c .before .before .before in
     let a = st .args in
-    (start-of (a .top) 13 4096 (a .vals .now) (omega (arith, c .before .if1 .taken)) (omega arith) (omega arith), st .pre .1, st .pre .2, st .pre .3)
+    (start-of (a .limit) 13 4096 (a .vals .now) (omega (arith, c .before .if1 .taken)) (omega arith) (omega arith), st .pre .1, st .pre .2, st .pre .3)
 
 returns : tie.Need-returns
 returns c = search needs
@@ -24,7 +24,7 @@ beyond-by-requires-2 : tie.Need-beyond-by-requires-2
 beyond-by-requires-2 c κs =
     let st = c .before .before .before in
     let a = st .args in
-    (start-of (a .top) 17 65536 (a .vals .now) (st .pre .0) (omega arith) (omega arith), st .pre .1, st .pre .2, st .pre .3)
+    (start-of (a .limit) 17 65536 (a .vals .now) (st .pre .0) (omega arith) (omega arith), st .pre .1, st .pre .2, st .pre .3)
 
 returns-2 : tie.Need-returns-2
 returns-2 c = search needs

@@ -16,7 +16,7 @@ use Rattle.meaning.specs.Limits.{limit}
 use Rattle.meaning.specs.Refusals.{distanceTold}
 use Rattle.laws.proofs.Choices.{getD-in}
 use Rattle.laws.proofs.Distances.{distance-told, distance-refused, Askable, askable-of}
-use Rattle.reach.specs.Marks.{Ready}
+use Rattle.search.specs.Marks.{Ready}
 use Rattle.distance.proofs.distance.Statement.{statement}
 use Rattle.distance.proofs.distance.Tie as tie
 

@@ -6,16 +6,16 @@ use native.Mathlib.Omega.{arith}
 use borrow.Author.Needs.{needs}
 use lib.ListN.{length, getD}
 use lib.Seq.{set-getD}
-use Rattle.reach.specs.Marks.{State}
-use Rattle.reach.proofs.Marks.{include-is}
+use Rattle.search.specs.Marks.{State}
+use Rattle.search.proofs.Marks.{include-is}
 use Rattle.distance.proofs.fill.Statement.{statement}
 use Rattle.distance.proofs.fill.Tie as tie
 
 abbrev Inv-loop : tie.InvT-loop
-Inv-loop map₀ top vals n₀ map n = (length map ≡ length map₀) × State top map vals n
+Inv-loop map₀ limit vals n₀ map n = (length map ≡ length map₀) × State limit map vals n
 
 abbrev μ-loop : tie.MeasureT-loop
-μ-loop map₀ top vals n₀ map n = length vals - n
+μ-loop map₀ limit vals n₀ map n = length vals - n
 
 loop-holds : tie.Need-loop-holds Inv-loop μ-loop
 loop-holds c = (refl, c .before .before .pre .0)
@@ -49,8 +49,8 @@ loop-again c =
     let h = t .loop-test .taken in
     let o = st .pre .1 .1 n h in (
       new .ensures .0 ∙ t .before .loop .inv .0,
-      subst (λ (xs : List ℕ). State (a .top) (new .last .0) xs (n + 1)) (set-getD (a .vals .now) n 0)
-          (include-is (a .top) map (new .last .0) (a .vals .now) n v (t .before .loop .inv .1) h (o .0) (o .1) (new .ensures .0) (new .ensures .1)),
+      subst (λ (xs : List ℕ). State (a .limit) (new .last .0) xs (n + 1)) (set-getD (a .vals .now) n 0)
+          (include-is (a .limit) map (new .last .0) (a .vals .now) n v (t .before .loop .inv .1) h (o .0) (o .1) (new .ensures .0) (new .ensures .1)),
     )
 
 same-length : tie.Need-same-length Inv-loop μ-loop
@@ -61,7 +61,7 @@ returns c =
     let s = c .before in
     let a = s .before .before .before .args in
     let e : s .loop .n ≡ length (a .vals .now) = omega (arith, s .loop .inv .1 .values .0) in
-    subst (λ (k : ℕ). State (a .top) (s .loop .map) (a .vals .now) k) e (s .loop .inv .1)
+    subst (λ (k : ℕ). State (a .limit) (s .loop .map) (a .vals .now) k) e (s .loop .inv .1)
 
 pub fill-spec : {M : Type 1} → statement M
 fill-spec =

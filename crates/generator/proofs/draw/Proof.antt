@@ -10,7 +10,7 @@ use Rattle.meaning.specs.Generator.{remaining, turn}
 use Rattle.meaning.specs.Refusals.{mostRows}
 use Rattle.laws.proofs.Remaining.{remaining-in}
 use Rattle.constants.specs.Held.{kept}
-use Rattle.reach.specs.Listed.{listed}
+use Rattle.search.specs.Listed.{listed}
 use Rattle.generator.specs.Growth.{Open, Grown}
 use Rattle.generator.specs.Rule.{AllServable}
 use Rattle.generator.proofs.Turns.{started-open, Turned, turned-start, turned-open, turned-more, turned-end, from-front}
@@ -18,17 +18,17 @@ use Rattle.generator.proofs.draw.Statement.{statement}
 use Rattle.generator.proofs.draw.Tie as tie
 
 abbrev Inv-loop : tie.InvT-loop
-Inv-loop map₀ top out₀ w set₀ k₀ map out set k =
-    (k ≤ w .count) × Turned top (kept w) set₀ k set map out₀ out × (length map ≡ length map₀) × (length out ≡ length out₀)
+Inv-loop map₀ limit out₀ w set₀ k₀ map out set k =
+    (k ≤ w .count) × Turned limit (kept w) set₀ k set map out₀ out × (length map ≡ length map₀) × (length out ≡ length out₀)
 
 abbrev μ-loop : tie.MeasureT-loop
-μ-loop map₀ top out₀ w set₀ k₀ map out set k = w .count - k
+μ-loop map₀ limit out₀ w set₀ k₀ map out set k = w .count - k
 
 -- as many constants as are counted
 its-length : (c : tie.Start Inv-loop μ-loop) → length (kept (c .args .w)) ≡ c .args .w .count
 its-length c = let p : length (c .args .w .values) ≡ 16 = search needs in length-take-le (c .args .w .count) (c .args .w .values) (omega (arith, c .pre .3))
 
-opened : (c : tie.After-start Inv-loop μ-loop) → let a = c .before .before .before .before .args in Open (a .top) (c .start .result) (c .start .last .0) (a .out .now) mostRows
+opened : (c : tie.After-start Inv-loop μ-loop) → let a = c .before .before .before .before .args in Open (a .limit) (c .start .result) (c .start .last .0) (a .out .now) mostRows
 opened c = started-open (c .start .ensures .0) (c .start .ensures .1) (c .before .before .before .before .pre .6)
 
 start-requires : tie.Need-start-requires Inv-loop μ-loop
@@ -42,7 +42,7 @@ left-requires c κs = c .before .before .before .before .before .before .before 
 
 -- what is left is servable, and the next turn has room
 next-open : (c : tie.Then1 Inv-loop μ-loop) → let t = c .before .before in let a = t .before .before .before .before .before .before .before .args in
-    Open (a .top) (t .loop .set) (t .loop .map) (t .loop .out) (length (turn (a .top) (listed (t .loop .set)) (remaining (listed (t .loop .set)) (kept (a .w)))))
+    Open (a .limit) (t .loop .set) (t .loop .map) (t .loop .out) (length (turn (a .limit) (listed (t .loop .set)) (remaining (listed (t .loop .set)) (kept (a .w)))))
 next-open c =
     let t = c .before .before in
     let d = t .before .before .before in
@@ -55,10 +55,10 @@ turn-requires c κs =
     let t = n .before .before in
     let f = t .before .before .before .before .before .before .before in
     let e = c .left .ensures .list in (
-      subst⁻¹ (λ (cs : List ℕ). Open (f .args .top) (t .loop .set) (t .loop .map) (t .loop .out) (length (turn (f .args .top) (listed (t .loop .set)) cs))) e (next-open n),
+      subst⁻¹ (λ (cs : List ℕ). Open (f .args .limit) (t .loop .set) (t .loop .map) (t .loop .out) (length (turn (f .args .limit) (listed (t .loop .set)) cs))) e (next-open n),
       f .pre .1,
       c .left .ensures .bound,
-      subst⁻¹ (AllServable (f .args .top)) e (λ k i. f .pre .4 k (remaining-in _ _ k i .0)),
+      subst⁻¹ (AllServable (f .args .limit)) e (λ k i. f .pre .4 k (remaining-in _ _ k i .0)),
     )
 
 add-k : tie.Need-add-k Inv-loop μ-loop
@@ -78,7 +78,7 @@ loop-again c =
     let h : t .loop .k < f .args .w .count = n .if1 .taken in (
       omega arith,
       turned-more (d .start .ensures .0) (opened d) (t .loop .inv .1) (omega (arith, its-length f))
-          (subst (λ (cs : List ℕ). Grown (f .args .top) (t .loop .set) (turn (f .args .top) (listed (t .loop .set)) cs) (u .turn .result) (u .turn .last .0) (t .loop .out) (u .turn .last .1 .1 .1 .0)) (l .left .ensures .list) (u .turn .ensures)),
+          (subst (λ (cs : List ℕ). Grown (f .args .limit) (t .loop .set) (turn (f .args .limit) (listed (t .loop .set)) cs) (u .turn .result) (u .turn .last .0) (t .loop .out) (u .turn .last .1 .1 .1 .0)) (l .left .ensures .list) (u .turn .ensures)),
       c .before .before .before .map2 .given ∙ t .loop .inv .2,
       c .before .out .given ∙ t .loop .inv .3,
     )

@@ -9,7 +9,7 @@ use Rattle.meaning.specs.declared.Refusal.the-variants as no
 use Rattle.meaning.specs.Limits.{limit}
 use Rattle.meaning.specs.Refusals.{admitted}
 use Rattle.laws.proofs.Checked.{admitted-of}
-use Rattle.reach.proofs.Marks.{start-of}
+use Rattle.search.proofs.Marks.{start-of}
 use Rattle.generator.proofs.Answers.{drawn-stops, drawn-short, told-refused}
 use Rattle.generator.proofs.generate.Statement.{statement}
 use Rattle.generator.proofs.generate.Tie as tie

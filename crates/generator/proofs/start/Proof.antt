@@ -5,7 +5,7 @@ use Prim.Native.Nat.{_^_, _≤_}
 use native.Mathlib.Omega.{arith}
 use borrow.Author.Needs.{needs}
 use lib.Pow.{pow-mono}
-use Rattle.reach.proofs.Marks.{none-ready}
+use Rattle.search.proofs.Marks.{none-ready}
 use Rattle.generator.proofs.Turns.{start-state}
 use Rattle.generator.proofs.start.Statement.{statement}
 use Rattle.generator.proofs.start.Tie as tie
@@ -16,8 +16,8 @@ start-requires c κs = search needs
 add-requires : tie.Need-add-requires
 add-requires c κs =
     let st = c .before .before .before .before .before .before in
-    let m : 2 ≤ 2 ^ st .args .top = pow-mono {i = 1} {j = st .args .top} (st .pre .0) in
-    (none-ready (st .args .top) (st .args .map .now) [] _ (st .pre .1), (refl, omega arith))
+    let m : 2 ≤ 2 ^ st .args .limit = pow-mono {i = 1} {j = st .args .limit} (st .pre .0) in
+    (none-ready (st .args .limit) (st .args .map .now) [] _ (st .pre .1), (refl, omega arith))
 
 same-length : tie.Need-same-length
 same-length c = search needs
@@ -29,7 +29,7 @@ returns c =
     let st = t .before .before in
     let w = st .pre .1 .wide in (
       t .start .ensures,
-      start-state (st .args .top) (a .add .last .0) (t .start .result) (st .pre .0) (t .start .ensures)
+      start-state (st .args .limit) (a .add .last .0) (t .start .result) (st .pre .0) (t .start .ensures)
           (w .0, omega (arith, w .1, a .add .ensures .0)) (a .add .ensures .1),
     )
 

@@ -8,8 +8,8 @@ use lib.ListN.{getD}
 use mir.Syntax.{w32, w64}
 use mir.Val.{SFits, toZ, ofZ}
 use mir.ValLaws.{toZ-ofZ}
-use Rattle.numbers.proofs.Integers.{abs-mul, abs-fits}
-use Rattle.numbers.proofs.Signed.{wide}
+use Rattle.laws.proofs.Integers.{abs-mul, abs-fits}
+use Rattle.laws.proofs.Signed.{wide}
 use Rattle.meaning.specs.Basics.{indexFrom}
 use Rattle.meaning.specs.Constants.{signOf, shiftOf, apart}
 use Rattle.meaning.specs.Graph.{rows, ready, outputIndex}

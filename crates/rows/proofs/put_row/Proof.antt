@@ -1,4 +1,4 @@
--- `put_row` meets its contract: seven stores, one after the other. Assumes nothing.
+-- `put_row` meets its contract: seven stores, one overAt the other. Assumes nothing.
 use mathlib.Core.Path.{_≡_}
 use mathlib.Core.List.{List}
 use Prim.Native.Nat.{ℕ, _+_, _≤_}
@@ -6,17 +6,17 @@ use native.Mathlib.Numerals.{add-one, add-two, add-three, add-four, add-five, ad
 use native.Mathlib.Omega.{arith}
 use lib.ListN.{length, set, length-set}
 use Rattle.meaning.specs.declared.Row.{Row}
-use Rattle.meaning.specs.Basics.{after}
+use Rattle.meaning.specs.Basics.{overAt}
 use Rattle.meaning.specs.Graph.{rowLength, words}
-use Rattle.laws.proofs.Over.{after-sets}
+use Rattle.laws.proofs.Over.{over-at-sets}
 use borrow.Author.Needs.{needs}
 use Rattle.rows.proofs.put_row.Statement.{statement}
 use Rattle.rows.proofs.put_row.Tie as tie
 
 stored : (l : List ℕ) (a : ℕ) (x : Row) → a + rowLength ≤ length l
     → set (set (set (set (set (set (set l a (x .u)) (a + 1) (x .v)) (a + 2) (x .l1)) (a + 3) (x .l2)) (a + 4) (x .s)) (a + 5) (x .r)) (a + 6) (x .value)
-    ≡ after a (words x) l
-stored l a x h = rw (add-one a, add-two a, add-three a, add-four a, add-five a, add-six a) (after-sets a (words x) l h)
+    ≡ overAt a (words x) l
+stored l a x h = rw (add-one a, add-two a, add-three a, add-four a, add-five a, add-six a) (over-at-sets a (words x) l h)
 
 mul-out : tie.Need-mul-out
 mul-out c = search needs

@@ -9,7 +9,7 @@ use borrow.Author.Tests.{le-leb, lt-leb}
 use lib.Dec.{leb}
 use lib.ListN.{length, length-map}
 use Rattle.meaning.specs.declared.Refusal.the-variants as no
-use Rattle.meaning.specs.Basics.{after}
+use Rattle.meaning.specs.Basics.{overAt}
 use Rattle.meaning.specs.Graph.{rows}
 use Rattle.meaning.specs.Widths.{rowWidth, outputWidth, widths}
 use Rattle.meaning.specs.Refusals.{sizedOrder, buffer, sized, measured, widthsWritten, firstOf}
@@ -89,7 +89,7 @@ returns-3 c =
     accepted-done _ _ _ _
     (past (e .before) ∙ passes no.Buffer (room (a .n + length (a .ts .now)) (length (a .out .now))) [] (rw (le-leb _ _ (e .if1 .left))))
     (second .output-widths .ensures
-    ∙ ap (after (a .n) (map (outputWidth (a .input)) (a .ts .now))) (first .row-widths .ensures)
+    ∙ ap (overAt (a .n) (map (outputWidth (a .input)) (a .ts .now))) (first .row-widths .ensures)
     ∙ over-part (map (rowWidth (a .input)) xs) (map (outputWidth (a .input)) (a .ts .now)) (a .out .now) (a .n)
     (length-map xs (rowWidth (a .input)) ∙ length-rows (a .n) (a .words .now)))
 

@@ -9,20 +9,20 @@ use lib.ListN.{length, take, set, getD, length-set}
 use lib.Seq.{take-length}
 use mir.Syntax.{w32}
 use mir.ValLaws.{toZ-ofZ}
-use Rattle.meaning.specs.Basics.{after}
+use Rattle.meaning.specs.Basics.{overAt}
 use Rattle.meaning.specs.Widths.{outputWidth}
-use Rattle.laws.proofs.Over.{after-none, after-more}
+use Rattle.laws.proofs.Over.{over-at-none, over-at-more}
 use Rattle.widths.proofs.output_widths.Statement.{statement}
 use Rattle.widths.proofs.output_widths.Tie as tie
 
 abbrev Inv-loop : tie.InvT-loop
-Inv-loop ts input from out₀ i₀ out i = (i ≤ length ts) × (length out ≡ length out₀) × (out ≡ after from (map (outputWidth input) (take i ts)) out₀)
+Inv-loop ts input from out₀ i₀ out i = (i ≤ length ts) × (length out ≡ length out₀) × (out ≡ overAt from (map (outputWidth input) (take i ts)) out₀)
 
 abbrev μ-loop : tie.MeasureT-loop
 μ-loop ts input from out₀ i₀ out i = length ts - i
 
 loop-holds : tie.Need-loop-holds Inv-loop μ-loop
-loop-holds c = (omega arith, refl, sym (after-none (c .before .args .from) (c .before .args .out .now)))
+loop-holds c = (omega arith, refl, sym (over-at-none (c .before .args .from) (c .before .args .out .now)))
 
 mul-t : tie.Need-mul-t Inv-loop μ-loop
 mul-t c = search needs
@@ -61,7 +61,7 @@ loop-again c =
       omega arith,
       simp length-set (inv .1),
       ap₂ (λ l v. set l (a .from + s .loop .i) v) (inv .2) (width-is c)
-          ∙ after-more (outputWidth (a .input)) (a .ts .now) (pos 0) (a .from) (a .out .now) (s .loop .i) (c .before .before .loop-test .taken) (omega arith),
+          ∙ over-at-more (outputWidth (a .input)) (a .ts .now) (pos 0) (a .from) (a .out .now) (s .loop .i) (c .before .before .loop-test .taken) (omega arith),
     )
 
 same-length : tie.Need-same-length Inv-loop μ-loop
@@ -72,7 +72,7 @@ returns c =
     let a = c .before .before .before .args in
     let e : c .before .loop .i ≡ length (a .ts .now) = omega arith in
     c .before .loop .inv .2
-    ∙ ap (λ l. after (a .from) (map (outputWidth (a .input)) l) (a .out .now)) (ap (λ k. take k (a .ts .now)) e ∙ take-length (a .ts .now))
+    ∙ ap (λ l. overAt (a .from) (map (outputWidth (a .input)) l) (a .out .now)) (ap (λ k. take k (a .ts .now)) e ∙ take-length (a .ts .now))
 
 pub output-widths-spec : {M : Type 1} → statement M
 output-widths-spec =

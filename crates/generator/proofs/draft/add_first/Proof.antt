@@ -4,8 +4,8 @@ use mathlib.Core.Option.{Option, some}
 use Rattle.meaning.specs.declared.Row.{Row}
 use Rattle.meaning.specs.Generator.{rowFor}
 use Rattle.laws.proofs.Choices.{row-from}
-use Rattle.reach.specs.Listed.{listed}
-use Rattle.reach.specs.Marks.{Odd}
+use Rattle.search.specs.Listed.{listed}
+use Rattle.search.specs.Marks.{Odd}
 use Rattle.generator.specs.Growth.{Grown, atMostOne}
 use Rattle.generator.proofs.DraftLaws.{missing-is, found-is, grown-none}
 use borrow.Author.Needs.{needs}
@@ -24,18 +24,18 @@ enum-told c = search needs
 returns : tie.Need-returns
 returns c =
     let a = c .before .before .before .before .before .before .before .before .args in
-    subst⁻¹ (λ (o : Option Row). Grown (a .top) (a .t3) (atMostOne o) (a .t3) (a .map .now) (a .out .now) (a .out .now))
-    (missing-is (rowFor (a .top) (listed (a .t3)) (a .c)) (sym (c .before .before .row-for .ensures) ∙ c .enum-told .given .1)) (grown-none 1 (c .before .before .before .before .before .before .before .before .pre .0))
+    subst⁻¹ (λ (o : Option Row). Grown (a .limit) (a .t3) (atMostOne o) (a .t3) (a .map .now) (a .out .now) (a .out .now))
+    (missing-is (rowFor (a .limit) (listed (a .t3)) (a .c)) (sym (c .before .before .row-for .ensures) ∙ c .enum-told .given .1)) (grown-none 1 (c .before .before .before .before .before .before .before .before .pre .0))
 
 -- the row found
-its-row : (c : tie.After-found) → rowFor (c .before .before .before .before .before .before .before .before .args .top) (listed (c .before .before .before .before .before .before .before .before .args .t3)) (c .before .before .before .before .before .before .before .before .args .c) ≡ some (c .found .given .0 .0)
+its-row : (c : tie.After-found) → rowFor (c .before .before .before .before .before .before .before .before .args .limit) (listed (c .before .before .before .before .before .before .before .before .args .t3)) (c .before .before .before .before .before .before .before .before .args .c) ≡ some (c .found .given .0 .0)
 its-row c = found-is _ _ (sym (c .before .before .row-for .ensures) ∙ c .found .given .1)
 
 add-row-requires : tie.Need-add-row-requires
 add-row-requires c κs =
     let d = c .before .before .before in
     let f = d .before .before .before .before .before .before .before .before in
-    (f .pre .0, subst⁻¹ (Odd (f .args .top)) (row-from _ _ _ _ (its-row d) .0) (f .pre .1))
+    (f .pre .0, subst⁻¹ (Odd (f .args .limit)) (row-from _ _ _ _ (its-row d) .0) (f .pre .1))
 
 same-length : tie.Need-same-length
 same-length c = search needs
@@ -47,7 +47,7 @@ returns-2 : tie.Need-returns-2
 returns-2 c =
     let d = c .before .before .before .before in
     let a = d .before .before .before .before .before .before .before .before .before .before .before .before .args in
-    subst⁻¹ (λ (o : Option Row). Grown (a .top) (a .t3) (atMostOne o) (d .add-row .result) (d .add-row .last .0) (a .out .now) (d .add-row .last .1 .1 .1 .0))
+    subst⁻¹ (λ (o : Option Row). Grown (a .limit) (a .t3) (atMostOne o) (d .add-row .result) (d .add-row .last .0) (a .out .now) (d .add-row .last .1 .1 .1 .0))
     (its-row (d .before .before .before .before)) (d .add-row .ensures)
 
 pub add-first-spec : {M : Type 1} → statement M

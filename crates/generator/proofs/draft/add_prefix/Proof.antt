@@ -4,7 +4,7 @@ use mathlib.Core.List.{List, [], _∷_}
 use Prim.Native.Nat.{ℕ}
 use lib.ListN.{length}
 use Rattle.meaning.specs.declared.Row.{Row}
-use Rattle.reach.specs.Listed.{listed}
+use Rattle.search.specs.Listed.{listed}
 use Rattle.meaning.specs.Generator.{prefixRow}
 use Rattle.generator.specs.Growth.{Open, Grown, prefixRows}
 use Rattle.generator.proofs.DraftLaws.{prefix-ready, prefix-new, grown-none}
@@ -19,7 +19,7 @@ returns : tie.Need-returns
 returns c =
     let f = c .before .before .before .before .before .before .before in
     let a = f .args in
-    subst⁻¹ (λ (xs : List Row). Grown (a .top) (a .t3) xs (a .t3) (a .map .now) (a .out .now) (a .out .now))
+    subst⁻¹ (λ (xs : List Row). Grown (a .limit) (a .t3) xs (a .t3) (a .map .now) (a .out .now) (a .out .now))
     (prefix-ready (listed (a .t3)) (a .p) (sym (c .before .has .ensures) ∙ c .if1 .taken)) (grown-none _ (f .pre .0))
 
 index-of-requires : tie.Need-index-of-requires
@@ -33,7 +33,7 @@ add-row-requires : tie.Need-add-row-requires
 add-row-requires c κs =
     let e = c .before .before .before in
     let f = e .before .before .before .before .before .before .before in
-    (subst (λ (xs : List Row). Open (f .args .top) (f .args .t3) (f .args .map .now) (f .args .out .now) (length xs)) (its-row e) (f .pre .0), f .pre .1)
+    (subst (λ (xs : List Row). Open (f .args .limit) (f .args .t3) (f .args .map .now) (f .args .out .now) (length xs)) (its-row e) (f .pre .0), f .pre .1)
 
 same-length : tie.Need-same-length
 same-length c = search needs
@@ -46,7 +46,7 @@ returns-2 c =
     let d = c .before .before .before .before in
     let e = d .before .before .before .before in
     let a = e .before .before .before .before .before .before .before .args in
-    subst⁻¹ (λ (xs : List Row). Grown (a .top) (a .t3) xs (d .add-row .result) (d .add-row .last .0) (a .out .now) (d .add-row .last .1 .1 .1 .0))
+    subst⁻¹ (λ (xs : List Row). Grown (a .limit) (a .t3) xs (d .add-row .result) (d .add-row .last .0) (a .out .now) (d .add-row .last .1 .1 .1 .0))
     (its-row e
     ∙ ap (λ (k : ℕ). record { u = k; v = 0; l1 = a .p .gap; l2 = 0; s = a .p .s; r = 0; value = a .p .value } ∷ []) (sym (d .before .before .before .index-of .ensures)))
     (d .add-row .ensures)

@@ -18,8 +18,8 @@ add-result c = search needs
 returns : tie.Need-returns
 returns c = rw (c .if1 .taken) (omega arith)
 
-apart-requires : tie.Need-apart-requires
-apart-requires c κs = search needs
+difference-requires : tie.Need-difference-requires
+difference-requires c κs = search needs
 
 returns-2 : tie.Need-returns-2
 returns-2 c =
@@ -28,4 +28,4 @@ returns-2 c =
 pub size-of-spec : {M : Type 1} → statement M
 size-of-spec =
     tie.close
-    (tie.spec shifted-requires shifted-requires-2 add-result returns apart-requires returns-2)
+    (tie.spec shifted-requires shifted-requires-2 add-result returns difference-requires returns-2)

@@ -9,17 +9,17 @@ use lib.ListN.{length, getD, drop, drop-of-length-le}
 use Rattle.meaning.specs.Generator.{ruleB}
 use Rattle.constants.specs.Held.{kept}
 use Rattle.constants.proofs.Kept.{kept-in, kept-next, kept-end}
-use Rattle.reach.specs.Listed.{listed}
-use Rattle.reach.proofs.RuleB.{b-empty}
+use Rattle.search.specs.Listed.{listed}
+use Rattle.search.proofs.RuleB.{b-empty}
 use Rattle.generator.proofs.RuleLaws.{picked-at, picked-none, ceiling}
 use Rattle.generator.proofs.rule.pick.Statement.{statement}
 use Rattle.generator.proofs.rule.pick.Tie as tie
 
 abbrev Inv-loop : tie.InvT-loop
-Inv-loop map top set w i₀ i = (i ≤ w .count) × (ruleB top (listed set) (kept w) ≡ ruleB top (listed set) (drop i (kept w)))
+Inv-loop map limit set w i₀ i = (i ≤ w .count) × (ruleB limit (listed set) (kept w) ≡ ruleB limit (listed set) (drop i (kept w)))
 
 abbrev μ-loop : tie.MeasureT-loop
-μ-loop map top set w i₀ i = w .count - i
+μ-loop map limit set w i₀ i = w .count - i
 
 places : (c : tie.Start Inv-loop μ-loop) → length (c .args .t4 .values) ≡ 16
 places c = search needs
@@ -34,12 +34,12 @@ member c =
 
 -- and it is the next one
 next : (c : tie.In-loop Inv-loop μ-loop) → let s = c .before in let a = s .before .before .args in
-    ruleB (a .top) (listed (a .t3)) (kept (a .t4)) ≡ ruleB (a .top) (listed (a .t3)) (getD (a .t4 .values) (s .loop .i) 0 ∷ drop (s .loop .i + 1) (kept (a .t4)))
+    ruleB (a .limit) (listed (a .t3)) (kept (a .t4)) ≡ ruleB (a .limit) (listed (a .t3)) (getD (a .t4 .values) (s .loop .i) 0 ∷ drop (s .loop .i + 1) (kept (a .t4)))
 next c =
     let s = c .before in
     let st = s .before .before in
     s .loop .inv .1
-    ∙ ap (ruleB (st .args .top) (listed (st .args .t3))) (kept-next (st .args .t4) (s .loop .i) (places st) (st .pre .2) (c .loop-test .taken))
+    ∙ ap (ruleB (st .args .limit) (listed (st .args .t3))) (kept-next (st .args .t4) (s .loop .i) (places st) (st .pre .2) (c .loop-test .taken))
 
 loop-holds : tie.Need-loop-holds Inv-loop μ-loop
 loop-holds c = (omega arith, refl)
@@ -66,7 +66,7 @@ returns c =
     let t = f .before .before .before .before .before in
     let s = t .before in
     let a = s .before .before .args in
-    picked-at (a .top) (listed (a .t3)) (kept (a .t4)) _ (drop (s .loop .i + 1) (kept (a .t4))) (next t) _ (f .choose .result) _ _
+    picked-at (a .limit) (listed (a .t3)) (kept (a .t4)) _ (drop (s .loop .i + 1) (kept (a .t4))) (next t) _ (f .choose .result) _ _
     (member t) (f .choose .ensures) (c .before .choice .given .1)
 
 enum-told : tie.Need-enum-told Inv-loop μ-loop
@@ -86,8 +86,8 @@ loop-again c =
     let st = s .before .before in
     let a = st .args in (
       omega arith,
-      picked-none (a .top) (listed (a .t3)) (kept (a .t4)) _ (drop (s .loop .i + 1) (kept (a .t4))) (next t) _ (f .choose .result) _
-          (f .choose .ensures) (ceiling (a .top) (st .pre .1)) (c .enum-told .given .1),
+      picked-none (a .limit) (listed (a .t3)) (kept (a .t4)) _ (drop (s .loop .i + 1) (kept (a .t4))) (next t) _ (f .choose .result) _
+          (f .choose .ensures) (ceiling (a .limit) (st .pre .1)) (c .enum-told .given .1),
     )
 
 returns-2 : tie.Need-returns-2 Inv-loop μ-loop
@@ -95,8 +95,8 @@ returns-2 c =
     let s = c .before in
     let a = s .before .before .args in
     s .loop .inv .1
-    ∙ ap (ruleB (a .top) (listed (a .t3))) (drop-of-length-le (kept (a .t4)) (kept-end (a .t4) (s .loop .i) (c .loop-test .left)))
-    ∙ b-empty (a .top) (listed (a .t3))
+    ∙ ap (ruleB (a .limit) (listed (a .t3))) (drop-of-length-le (kept (a .t4)) (kept-end (a .t4) (s .loop .i) (c .loop-test .left)))
+    ∙ b-empty (a .limit) (listed (a .t3))
 
 pub pick-spec : {M : Type 1} → statement M
 pick-spec =

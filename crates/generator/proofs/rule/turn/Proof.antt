@@ -12,7 +12,7 @@ use Rattle.meaning.specs.Graph.{values}
 use Rattle.meaning.specs.Generator.{rowFor, ruleA, ruleC, turn}
 use Rattle.constants.specs.Held.{kept}
 use Rattle.constants.proofs.Kept.{kept-at, kept-inside, kept-in, kept-nothing}
-use Rattle.reach.specs.Listed.{listed}
+use Rattle.search.specs.Listed.{listed}
 use Rattle.generator.specs.Growth.{Open, Grown, atMostOne}
 use Rattle.generator.proofs.DraftLaws.{grown-none, grown-then, open-on, open-less}
 use Rattle.generator.specs.declared.rule.Chosen.{Chosen}
@@ -26,40 +26,40 @@ places c = search needs
 
 -- ---- step A
 
-nearest-is : (c : tie.After-c) → let a = c .before .before .before .before .before .before .before .args in Nearest (a .top) (listed (a .set)) (kept (a .t5)) (c .c .given .0 .0)
+nearest-is : (c : tie.After-c) → let a = c .before .before .before .before .before .before .before .args in Nearest (a .limit) (listed (a .set)) (kept (a .t5)) (c .c .given .0 .0)
 nearest-is c =
     let f = c .before .before .before .before .before .before .before in
     near-at _ _ _ _ (f .pre .0 .state) _ (f .pre .3) _ (sym (c .before .before .nearest .ensures) ∙ c .c .given .1)
 
 turned-a : (c : tie.After-c) → let a = c .before .before .before .before .before .before .before .args in
-    turn (a .top) (listed (a .set)) (kept (a .t5)) ≡ atMostOne (rowFor (a .top) (listed (a .set)) (c .c .given .0 .0))
+    turn (a .limit) (listed (a .set)) (kept (a .t5)) ≡ atMostOne (rowFor (a .limit) (listed (a .set)) (c .c .given .0 .0))
 turned-a c = turn-a _ _ _ _ (nearest-is c .rows)
 
 -- ---- step B
 
 none-near : (c : tie.After-enum-told) → let a = c .before .before .before .before .before .before .before .args in
-    (ruleA (a .top) (listed (a .set)) (kept (a .t5)) ≡ none) × NoneNear (a .top) (listed (a .set)) (kept (a .t5))
+    (ruleA (a .limit) (listed (a .set)) (kept (a .t5)) ≡ none) × NoneNear (a .limit) (listed (a .set)) (kept (a .t5))
 none-near c =
     let f = c .before .before .before .before .before .before .before in
     near-nothing _ _ _ _ (f .pre .0 .state) _ (f .pre .3) (sym (c .before .before .nearest .ensures) ∙ c .enum-told .given .1)
 
-picked-is : (c : tie.After-c2) → let a = c .before .before .before .before .before .before .before .before .before .before .before .args in Serves (a .top) (listed (a .set)) (kept (a .t5)) (c .c2 .given .0 .0) (c .c2 .given .0 .1 .0)
+picked-is : (c : tie.After-c2) → let a = c .before .before .before .before .before .before .before .before .before .before .before .args in Serves (a .limit) (listed (a .set)) (kept (a .t5)) (c .c2 .given .0 .0) (c .c2 .given .0 .1 .0)
 picked-is c =
     let a = c .before .before .before .before .before .before .before .before .before .before .before .args in
-    subst (λ (r : Chosen). Picked (a .top) (listed (a .set)) (kept (a .t5)) r) (c .c2 .given .1) (c .before .before .pick .ensures)
+    subst (λ (r : Chosen). Picked (a .limit) (listed (a .set)) (kept (a .t5)) r) (c .c2 .given .1) (c .before .before .pick .ensures)
 
 turned-b : (c : tie.After-c2) → let a = c .before .before .before .before .before .before .before .before .before .before .before .args in
-    turn (a .top) (listed (a .set)) (kept (a .t5))
-    ≡ atMostOne (rowFor (a .top) (listed (a .set)) (c .c2 .given .0 .1 .0)) ++ atMostOne (rowFor (a .top) (listed (a .set) ++ (c .c2 .given .0 .1 .0 ∷ [])) (c .c2 .given .0 .0))
+    turn (a .limit) (listed (a .set)) (kept (a .t5))
+    ≡ atMostOne (rowFor (a .limit) (listed (a .set)) (c .c2 .given .0 .1 .0)) ++ atMostOne (rowFor (a .limit) (listed (a .set) ++ (c .c2 .given .0 .1 .0 ∷ [])) (c .c2 .given .0 .0))
 turned-b c = turn-b _ _ _ _ (none-near (c .before .before .before .before) .0) (picked-is c .rows)
 
 two : (c : tie.After-c2) → let a = c .before .before .before .before .before .before .before .before .before .before .before .args in
-    length (turn (a .top) (listed (a .set)) (kept (a .t5))) ≡ 2
+    length (turn (a .limit) (listed (a .set)) (kept (a .t5))) ≡ 2
 two c = turn-two _ _ _ _ _ (none-near (c .before .before .before .before) .0) (picked-is c)
 
 -- the set after the row of s
 with-s : (c : tie.After-add-first2) → let d = c .before .before .before .before in let a = d .before .before .before .before .before .before .before .before .before .before .before .args in
-    listed (c .add-first2 .result) ≡ listed (a .set) ++ values (atMostOne (rowFor (a .top) (listed (a .set)) (d .c2 .given .0 .1 .0)))
+    listed (c .add-first2 .result) ≡ listed (a .set) ++ values (atMostOne (rowFor (a .limit) (listed (a .set)) (d .c2 .given .0 .1 .0)))
 with-s c = c .add-first2 .ensures .lists
 
 more-lists : (c : tie.After-add-first2) → let d = c .before .before .before .before in let a = d .before .before .before .before .before .before .before .before .before .before .before .args in
@@ -67,18 +67,18 @@ more-lists : (c : tie.After-add-first2) → let d = c .before .before .before .b
 more-lists c =
     let d = c .before .before .before .before in
     let a = d .before .before .before .before .before .before .before .before .before .before .before .args in
-    with-s c ∙ ap (λ (l : List ℕ). listed (a .set) ++ l) (row-value (a .top) (listed (a .set)) _ (picked-is d .first))
+    with-s c ∙ ap (λ (l : List ℕ). listed (a .set) ++ l) (row-value (a .limit) (listed (a .set)) _ (picked-is d .first))
 
 -- ---- step C
 
 turned-c : (c : tie.After-enum-told2) → let a = c .before .before .before .before .before .before .before .before .before .before .before .args in
-    turn (a .top) (listed (a .set)) (kept (a .t5)) ≡ ruleC (listed (a .set)) (prefixes (getD (a .t5 .values) 0 0))
+    turn (a .limit) (listed (a .set)) (kept (a .t5)) ≡ ruleC (listed (a .set)) (prefixes (getD (a .t5 .values) 0 0))
 turned-c c =
     let f = c .before .before .before .before .before .before .before .before .before .before .before in
     let a = f .args in
     let some = c .before .before .before .before .before .before .before .before .if1 .left in
     turn-c _ _ _ (kept-inside (a .t5) 0 (places f) (f .pre .2) (omega arith)) (none-near (c .before .before .before .before) .0)
-    (subst (λ (r : Chosen). Picked (a .top) (listed (a .set)) (kept (a .t5)) r) (c .enum-told2 .given .1) (c .before .before .pick .ensures))
+    (subst (λ (r : Chosen). Picked (a .limit) (listed (a .set)) (kept (a .t5)) r) (c .enum-told2 .given .1) (c .before .before .pick .ensures))
     ∙ ap (λ (k : ℕ). ruleC (listed (a .set)) (prefixes k)) (kept-at (a .t5) 0 (omega arith))
 
 -- ---- the needs
@@ -87,8 +87,8 @@ returns : tie.Need-returns
 returns c =
     let f = c .before .before .before in
     let a = f .args in
-    subst⁻¹ (λ (xs : List Row). Grown (a .top) (a .set) xs (a .set) (a .map .now) (a .out .now) (a .out .now))
-    (ap (turn (a .top) (listed (a .set))) (kept-nothing (a .t5) (c .if1 .taken)) ∙ turn-none (a .top) (listed (a .set))) (grown-none _ (f .pre .0))
+    subst⁻¹ (λ (xs : List Row). Grown (a .limit) (a .set) xs (a .set) (a .map .now) (a .out .now) (a .out .now))
+    (ap (turn (a .limit) (listed (a .set))) (kept-nothing (a .t5) (c .if1 .taken)) ∙ turn-none (a .limit) (listed (a .set))) (grown-none _ (f .pre .0))
 
 nearest-requires : tie.Need-nearest-requires
 nearest-requires c κs =
@@ -115,7 +115,7 @@ returns-2 c =
     let e = c .before .before .before .before in
     let d = e .before .before .before .before in
     let a = d .before .before .before .before .before .before .before .args in
-    subst⁻¹ (λ (xs : List Row). Grown (a .top) (a .set) xs (e .add-first .result) (e .add-first .last .0) (a .out .now) (e .add-first .last .1 .1 .1 .0))
+    subst⁻¹ (λ (xs : List Row). Grown (a .limit) (a .set) xs (e .add-first .result) (e .add-first .last .0) (a .out .now) (e .add-first .last .1 .1 .1 .0))
     (turned-a d) (e .add-first .ensures)
 
 enum-told : tie.Need-enum-told
@@ -156,10 +156,10 @@ returns-3 c =
     let d = e .before .before .before .before in
     let f = d .before .before .before .before .before .before .before .before .before .before .before in
     let a = f .args in
-    subst⁻¹ (λ (xs : List Row). Grown (a .top) (a .set) xs (g .add-first3 .result) (g .add-first3 .last .0) (a .out .now) (g .add-first3 .last .1 .1 .1 .0))
+    subst⁻¹ (λ (xs : List Row). Grown (a .limit) (a .set) xs (g .add-first3 .result) (g .add-first3 .last .0) (a .out .now) (g .add-first3 .last .1 .1 .1 .0))
     (turned-b d)
     (grown-then _ (f .pre .0) (e .add-first2 .ensures)
-    (subst (λ (l : List ℕ). Grown (a .top) (e .add-first2 .result) (atMostOne (rowFor (a .top) l (d .c2 .given .0 .0))) (g .add-first3 .result) (g .add-first3 .last .0) (e .add-first2 .last .1 .1 .1 .0) (g .add-first3 .last .1 .1 .1 .0))
+    (subst (λ (l : List ℕ). Grown (a .limit) (e .add-first2 .result) (atMostOne (rowFor (a .limit) l (d .c2 .given .0 .0))) (g .add-first3 .result) (g .add-first3 .last .0) (e .add-first2 .last .1 .1 .1 .0) (g .add-first3 .last .1 .1 .1 .0))
     (more-lists e) (g .add-first3 .ensures)))
 
 enum-told-2 : tie.Need-enum-told-2
@@ -174,7 +174,7 @@ add-prefixes-requires c κs =
     let f = d .before .before .before .before .before .before .before .before .before .before .before in
     let a = f .args in
     let some = d .before .before .before .before .before .before .before .before .if1 .left in (
-      subst (λ (xs : List Row). Open (a .top) (a .set) (a .map .now) (a .out .now) (length xs)) (turned-c d) (f .pre .0),
+      subst (λ (xs : List Row). Open (a .limit) (a .set) (a .map .now) (a .out .now) (length xs)) (turned-c d) (f .pre .0),
       f .pre .3 _ (kept-in (a .t5) 0 (places f) (f .pre .2) (omega arith)),
     )
 
@@ -189,7 +189,7 @@ returns-4 c =
     let e = c .before .before .before .before in
     let d = e .before .before .before .before in
     let a = d .before .before .before .before .before .before .before .before .before .before .before .args in
-    subst⁻¹ (λ (xs : List Row). Grown (a .top) (a .set) xs (e .add-prefixes .result) (e .add-prefixes .last .0) (a .out .now) (e .add-prefixes .last .1 .1 .1 .0))
+    subst⁻¹ (λ (xs : List Row). Grown (a .limit) (a .set) xs (e .add-prefixes .result) (e .add-prefixes .last .0) (a .out .now) (e .add-prefixes .last .1 .1 .1 .0))
     (turned-c d) (e .add-prefixes .ensures)
 
 pub turn-spec : {M : Type 1} → statement M

@@ -8,16 +8,16 @@ use lib.Signed.{quotZ}
 use mir.Syntax.{w64}
 use mir.Val.{SFits}
 use mir.ValLaws.{toZ-ofZ}
-use Rattle.meaning.specs.Products.{joined, turnedBy}
+use Rattle.meaning.specs.Products.{joined, negatedIf}
 use Rattle.products.specs.RowProductWorked.{worked}
-use Rattle.products.proofs.RowProductLaws.{abs-joined, abs-turned}
+use Rattle.products.proofs.RowProductLaws.{abs-joined, abs-negated}
 use Rattle.products.proofs.row_product.row_product.Statement.{statement}
 use Rattle.products.proofs.row_product.row_product.Tie as tie
 
 fit-n : (c : tie.After-join) → SFits w64 (c .join .result)
 fit-n c = search needs
 
-fit-t : (c : tie.After-turn) → SFits w64 (c .turn .result)
+fit-t : (c : tie.After-negate) → SFits w64 (c .negate .result)
 fit-t c = search needs
 
 fit-q : (c : tie.After-divided) → SFits w64 (c .divided .result)
@@ -27,10 +27,10 @@ fit-q c = search needs
 n-is : (c : tie.After-join) → let s = c .before .args in c .join .result ≡ joined (s .p) (s .q) (s .x .l1) (s .x .l2) (s .x .s)
 n-is c = rw (toZ-ofZ w64 _ (c .before .fits .p), toZ-ofZ w64 _ (c .before .fits .q)) at (c .join .ensures)
 
-t-is : (c : tie.After-turn) → c .turn .result ≡ turnedBy (c .before .is-turned .result) (c .before .before .join .result)
-t-is c = rw (toZ-ofZ w64 _ (fit-n (c .before .before))) at (c .turn .ensures)
+t-is : (c : tie.After-negate) → c .negate .result ≡ negatedIf (c .before .is-negative .result) (c .before .before .join .result)
+t-is c = rw (toZ-ofZ w64 _ (fit-n (c .before .before))) at (c .negate .ensures)
 
-q-is : (c : tie.After-divided) → c .divided .result ≡ quotZ (c .before .turn .result) (pos (2 ^ c .before .before .before .before .args .x .r))
+q-is : (c : tie.After-divided) → c .divided .result ≡ quotZ (c .before .negate .result) (pos (2 ^ c .before .before .before .before .args .x .r))
 q-is c = rw (toZ-ofZ w64 _ (fit-t (c .before))) at (c .divided .ensures)
 
 -- and how large it is
@@ -40,17 +40,17 @@ n-low c =
     let h = c .before .pre in
     rw (n-is c) (omega (arith, abs-joined (s .p) (s .q) (s .x .l1) (s .x .l2) (s .x .s), h .first, h .second))
 
-t-low : (c : tie.After-turn) → natAbs (c .turn .result) ≤ 2 ^ 62
-t-low c = rw (t-is c, abs-turned (c .before .is-turned .result) (c .before .before .join .result)) (n-low (c .before .before))
+t-low : (c : tie.After-negate) → natAbs (c .negate .result) ≤ 2 ^ 62
+t-low c = rw (t-is c, abs-negated (c .before .is-negative .result) (c .before .before .join .result)) (n-low (c .before .before))
 
 join-requires : tie.Need-join-requires
 join-requires c κs = search needs
 
-is-turned-requires : tie.Need-is-turned-requires
-is-turned-requires c κs = search needs
+is-negative-requires : tie.Need-is-negative-requires
+is-negative-requires c κs = search needs
 
-turn-requires : tie.Need-turn-requires
-turn-requires c κs = rw (toZ-ofZ w64 _ (fit-n (c .before))) (n-low (c .before))
+negate-requires : tie.Need-negate-requires
+negate-requires c κs = rw (toZ-ofZ w64 _ (fit-n (c .before))) (n-low (c .before))
 
 divided-requires : tie.Need-divided-requires
 divided-requires c κs =
@@ -61,9 +61,9 @@ returns : tie.Need-returns
 unfolding worked
 returns c =
     let t = c .before in
-    rw (toZ-ofZ w64 _ (fit-q c), q-is c, t-is t, t .before .is-turned .ensures, n-is (t .before .before))
+    rw (toZ-ofZ w64 _ (fit-q c), q-is c, t-is t, t .before .is-negative .ensures, n-is (t .before .before))
 
 pub row-product-spec : {M : Type 1} → statement M
 row-product-spec =
     tie.close
-    (tie.spec join-requires is-turned-requires turn-requires divided-requires returns)
+    (tie.spec join-requires is-negative-requires negate-requires divided-requires returns)

@@ -1,0 +1,112 @@
+-- Step B by choices: for the first constant that has one, the rows of the choice and then of the constant. A loop over the constants goes by
+-- `b-empty`, `b-nothing` and `b-at`. Assumes nothing.
+use mathlib.Core.Path.{_≡_, refl, sym, ap, _∙_, subst, subst⁻¹}
+use mathlib.Core.Bool.{Bool, true, false, cond}
+use mathlib.Core.List.{List, [], _∷_, _++_, map}
+use mathlib.Core.Option.{Option, some, none}
+use Prim.Native.Nat.{ℕ, _+_, _-_, _^_, _≤_}
+use native.Mathlib.Omega.{arith}
+use lib.Dec.{T}
+use Rattle.meaning.specs.declared.Row.{Row}
+use Rattle.meaning.specs.Basics.{firstSome, andThen}
+use Rattle.meaning.specs.Distance.{reach?, serves?, candidates}
+use Rattle.meaning.specs.Generator.{rowFor, trials, serve, ruleB}
+use Rattle.laws.proofs.Choices.{found, first-from, then-from}
+use Rattle.laws.proofs.Inverse.{Odd}
+use Rattle.laws.proofs.Reach.{reach-is, reached-odd}
+use Rattle.laws.proofs.Rules.{serve-got}
+use Rattle.laws.proofs.Scan.{step, first-append, first-map}
+use Rattle.laws.proofs.Tests.{both-of, T-of}
+use Rattle.search.specs.declared.serving.Choice.the-variants.{At, Nothing}
+use Rattle.search.specs.Choices.{serving, pick, chosenIn}
+use Rattle.search.proofs.Scan.{first-take, through, first-through}
+use Rattle.search.proofs.Candidates.{candidates-all}
+
+-- ---- over a list of constants
+
+-- the choice with no ceiling
+abbrev pub choice : ℕ → List ℕ → ℕ → Option ℕ
+choice L vals c = firstSome (serving L vals c) (candidates L)
+
+-- the rows of the choice and of c
+abbrev pub rowsFor : ℕ → List ℕ → ℕ → Option (List Row)
+rowsFor L vals c = andThen (choice L vals c) (λ s. serve L vals (c, s))
+
+trials-of : (L : ℕ) (vals : List ℕ) (c : ℕ) → firstSome (serve L vals) (map (λ s. (c, s)) (candidates L)) ≡ rowsFor L vals c
+trials-of L vals c =
+    first-map (serve L vals) (λ s. (c, s)) (candidates L)
+    ∙ first-through (serves? L vals c) (λ s. serve L vals (c, s)) (serve-got L vals c) (candidates L)
+
+pub b-empty : (L : ℕ) (vals : List ℕ) → ruleB L vals [] ≡ none
+unfolding ruleB trials firstSome
+b-empty L vals = refl
+
+b-step : (L : ℕ) (vals : List ℕ) (c : ℕ) (cs : List ℕ) → ruleB L vals (c ∷ cs) ≡ step (rowsFor L vals c) (ruleB L vals cs)
+unfolding ruleB trials
+b-step L vals c cs =
+    first-append (serve L vals) (map (λ s. (c, s)) (candidates L)) (trials L cs)
+    ∙ ap (λ o. step o (ruleB L vals cs)) (trials-of L vals c)
+
+-- ---- what was chosen
+
+-- s is a value that an operation can have; its row and then that of c are found, and are what step B adds
+pub record Served (L : ℕ) (vals : List ℕ) (c s : ℕ) : Type 0 where
+  pub odd : Odd L s
+  pub first : Row
+  pub second : Row
+  pub first-is : rowFor L vals s ≡ some first
+  pub second-is : rowFor L (vals ++ (s ∷ [])) c ≡ some second
+  pub both-are : serve L vals (c, s) ≡ some (first ∷ second ∷ [])
+
+serve-by : (L : ℕ) (vals : List ℕ) (c s : ℕ) (rows : List Row) → Odd L s → serve L vals (c, s) ≡ some rows → Served L vals c s
+unfolding serve
+serve-by L vals c s rows o e =
+    let (x, e1, e2) = then-from _ _ _ e in
+    let (y, e3, e4) = then-from _ _ _ e2 in
+    record { odd = o; first = x; second = y; first-is = e1; second-is = e3; both-are = e ∙ sym e4 }
+
+picked-at : (o : Option ℕ) (t s n : ℕ) → pick o t ≡ At s n → o ≡ some s
+picked-at none t s n e = absurd (let z : _≡_ {A = ℕ} 0 1 = cc in omega arith)
+picked-at (some a) t s n e = cc
+
+picked-nothing : (o : Option ℕ) (t n : ℕ) → pick o t ≡ Nothing n → o ≡ none
+picked-nothing none t n e = refl
+picked-nothing (some a) t n e = absurd (let z : _≡_ {A = ℕ} 0 1 = cc in omega arith)
+
+module _ (L : ℕ) (vals : List ℕ) (c k : ℕ) where
+  chosen-at : (s n : ℕ) → chosenIn L vals c k ≡ At s n → choice L vals c ≡ some s
+  unfolding chosenIn
+  chosen-at s n e = first-take (serving L vals c) k (candidates L) s (picked-at _ _ s n e)
+
+  chosen-nothing : (n : ℕ) → 2 ^ (L - 1) ≤ k + 1 → chosenIn L vals c k ≡ Nothing n → choice L vals c ≡ none
+  unfolding chosenIn
+  chosen-nothing n h e = ap (firstSome (serving L vals c)) (sym (candidates-all k L h)) ∙ picked-nothing _ _ n e
+
+  -- this constant has no choice among all candidates: the others decide
+  pub b-nothing : (n : ℕ) (cs : List ℕ) → 2 ^ (L - 1) ≤ k + 1 → chosenIn L vals c k ≡ Nothing n → ruleB L vals (c ∷ cs) ≡ ruleB L vals cs
+  unfolding andThen
+  b-nothing n cs h e =
+      b-step L vals c cs ∙ ap (λ (o : Option ℕ). step (andThen o (λ s. serve L vals (c, s))) (ruleB L vals cs)) (chosen-nothing n h e)
+
+  serves-of : (s n : ℕ) → chosenIn L vals c k ≡ At s n → T (serves? L vals c s)
+  serves-of s n e = let (x, i, q) = first-from (serving L vals c) (candidates L) s (chosen-at s n e) in go x (serves? L vals c x) refl q
+    where
+      go : (x : ℕ) (b : Bool) → serves? L vals c x ≡ b → cond b (some x) none ≡ some s → T (serves? L vals c s)
+      go x true p q = let f : x ≡ s = cc in subst (λ z. T (serves? L vals c z)) f (T-of p)
+      go x false p q = absurd (let z : _≡_ {A = ℕ} 0 1 = cc in omega arith)
+
+  -- this constant has one: by the rows of s and then of c
+  pub b-at : (s n : ℕ) (cs : List ℕ) → chosenIn L vals c k ≡ At s n → ruleB L vals (c ∷ cs) ≡ serve L vals (c, s)
+  b-at s n cs e =
+      let (rows, q) = found (serve L vals (c, s)) (subst⁻¹ T (serve-got L vals c s) (serves-of s n e)) in
+      b-step L vals c cs
+      ∙ ap (λ (o : Option (List Row)). step o (ruleB L vals cs)) (ap (λ (o : Option ℕ). andThen o (λ s. serve L vals (c, s))) (chosen-at s n e) ∙ through (λ s. serve L vals (c, s)) s ∙ q)
+      ∙ sym q
+
+  -- and these rows are found: s can be made ready, and then c
+  pub at-served : (s n : ℕ) → chosenIn L vals c k ≡ At s n → Served L vals c s
+  unfolding serves?
+  at-served s n e =
+      let (a, b) = both-of (reach? L vals s) (reach? L (s ∷ vals) c) (serves-of s n e) in
+      let (rows, q) = found (serve L vals (c, s)) (subst⁻¹ T (serve-got L vals c s) (serves-of s n e)) in
+      serve-by L vals c s rows (reached-odd L vals s (reach-is L vals s .0 a)) q
