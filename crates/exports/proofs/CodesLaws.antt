@@ -15,10 +15,10 @@ use Rattle.meaning.specs.declared.Answer.the-variants.{Accepted, Refused}
 use Rattle.meaning.specs.declared.Refusal.{Refusal}
 use Rattle.meaning.specs.declared.Refusal.the-variants as no
 use Rattle.meaning.specs.Graph.{rowLength, rows, served?}
-use Rattle.meaning.specs.Limits.{limit}
+use Rattle.meaning.specs.Limits.{limit, mostRows}
 use Rattle.meaning.specs.Constants.{oddOf}
 use Rattle.meaning.specs.Generator.{generated}
-use Rattle.meaning.specs.Refusals.{number, placeOf, need, needEach, firstOf, mostRows, bitLimit, listLength, rowCount, validRows, allServed, inputWidth, buffer, fewRows, admitOrder, checkOrder, productsOrder, widthsOrder, rankingOrder, generateOrder, distanceOrder, checked, multiplied, measured, ranked, drawn}
+use Rattle.meaning.specs.Refusals.{number, placeOf, need, needEach, firstOf, bitLimit, listLength, rowCount, validRows, allServed, inputWidth, buffer, fewRows, admitOrder, checkOrder, productsOrder, widthsOrder, rankingOrder, generateOrder, distanceOrder, checked, multiplied, measured, ranked, drawn}
 use Rattle.laws.proofs.Graphs.{length-rows}
 use Rattle.laws.proofs.Stages.{never-both, need-accepts, need-refuses, each-refuses, rows-refuse}
 use Rattle.exports.specs.Codes.{minus, refusalCode}

@@ -10,6 +10,7 @@ use lib.ListN.{length, drop, length-append}
 use mir.Syntax.{w64}
 use mir.Val.{SFits, toZ, ofZ}
 use mir.ValLaws.{toZ-ofZ}
+use Rattle.meaning.specs.Limits.{mostRows}
 use Rattle.meaning.specs.declared.Answer.{Answer}
 use Rattle.meaning.specs.declared.Answer.the-variants.{Accepted, Refused}
 use Rattle.meaning.specs.declared.Printed.{Printed}
@@ -18,7 +19,7 @@ use Rattle.meaning.specs.declared.Refusal.{Refusal}
 use Rattle.meaning.specs.declared.Refusal.the-variants as no
 use Rattle.meaning.specs.Basics.{over}
 use Rattle.meaning.specs.Graph.{rowLength}
-use Rattle.meaning.specs.Refusals.{mostRows, rankingOrder, widthsOrder, ranked, measured, Done}
+use Rattle.meaning.specs.Refusals.{rankingOrder, widthsOrder, ranked, measured, Done}
 use Rattle.meaning.specs.Listing.{textRoom, jobText, printedTold, textWritten}
 use Rattle.laws.proofs.Stages.{first-accepts, need-accepts}
 use Rattle.exports.specs.Codes.{coded}

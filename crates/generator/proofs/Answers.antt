@@ -14,11 +14,11 @@ use Rattle.meaning.specs.declared.Drawn.the-variants as out
 use Rattle.meaning.specs.declared.Refusal.{Refusal}
 use Rattle.meaning.specs.declared.Refusal.the-variants as no
 use Rattle.meaning.specs.Basics.{over}
-use Rattle.meaning.specs.Limits.{limit}
+use Rattle.meaning.specs.Limits.{limit, mostRows}
 use Rattle.meaning.specs.Constants.{wanted}
 use Rattle.meaning.specs.Graph.{rowLength, flat}
 use Rattle.meaning.specs.Generator.{turns, generated}
-use Rattle.meaning.specs.Refusals.{mostRows, buffer, fewRows, admitOrder, admitted, Done, given, drawnAs, drawn, drawnTold, rowsWritten}
+use Rattle.meaning.specs.Refusals.{buffer, fewRows, admitOrder, admitted, Done, given, drawnAs, drawn, drawnTold, rowsWritten}
 use Rattle.laws.proofs.Stages.{stops, stops-at, passes-on, over-none}
 use Rattle.laws.proofs.Chain.{prefix-row}
 use Rattle.laws.proofs.Checked.{Admitted}

@@ -4,11 +4,11 @@ use mathlib.Core.List.{List, [], _++_, _∷_}
 use Prim.Native.Nat.{ℕ, zero, suc, _+_, _-_, _*_, _≤_, _<_, _^_}
 use native.Mathlib.Omega.{arith}
 use lib.ListN.{length, length-append, getD}
+use Rattle.meaning.specs.Limits.{mostRows}
 use Rattle.meaning.specs.declared.Row.{Row}
 use Rattle.meaning.specs.Basics.{over, overAt}
 use Rattle.meaning.specs.Graph.{rowLength, flat, values, ready}
 use Rattle.meaning.specs.Generator.{remaining, turn, turns}
-use Rattle.meaning.specs.Refusals.{mostRows}
 use Rattle.search.specs.declared.ready.Ready.{Ready}
 use Rattle.search.specs.Listed.{listed, Started}
 use Rattle.search.specs.Marks.{State, Holds, Wide}

@@ -5,13 +5,13 @@ use mathlib.Core.List.{List, [], _∷_, _++_, List·Memᴰ}
 use mathlib.Core.Option.{Option, some, none}
 use Prim.Native.Nat.{ℕ, _+_, _-_, _*_, _≤_}
 use lib.ListN.{length}
+use Rattle.meaning.specs.Limits.{mostRows}
 use Rattle.meaning.specs.declared.Prefix.{Prefix}
 use Rattle.meaning.specs.declared.Row.{Row}
 use Rattle.meaning.specs.Basics.{has, overAt}
 use Rattle.meaning.specs.Graph.{rowLength, flat, values}
 use Rattle.meaning.specs.Digits.{prefixes}
 use Rattle.meaning.specs.Generator.{prefixRow}
-use Rattle.meaning.specs.Refusals.{mostRows}
 use Rattle.search.specs.declared.ready.Ready.{Ready}
 use Rattle.search.specs.Listed.{room, listed, Fit}
 use Rattle.search.specs.Marks.{Odd, State}

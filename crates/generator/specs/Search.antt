@@ -5,9 +5,9 @@ use mathlib.Core.List.{List, [], _∷_}
 use mathlib.Core.Option.{Option, some, none}
 use Prim.Native.Nat.{ℕ, _+_, _-_, _%_, _^_, _≤_, _<_}
 use lib.ListN.{length, getD}
+use Rattle.meaning.specs.Limits.{mostRows}
 use Rattle.meaning.specs.declared.Row.{Row}
 use Rattle.meaning.specs.Basics.{upFrom, zeros, firstSome}
-use Rattle.meaning.specs.Refusals.{mostRows}
 use Rattle.meaning.specs.Operation.{size}
 use Rattle.meaning.specs.Distance.{gives?, shiftPairs}
 use Rattle.generator.specs.declared.first_row.Pair.{Pair}

@@ -10,9 +10,10 @@ ghost use mathlib.Core.List.{[], _∷_};
 ghost use Prim.Native.Nat.{_*_, _≤_};
 ghost use lib.Dec.{leb};
 ghost use lib.ListN.{length};
+ghost use Rattle.meaning.specs.Limits.{mostRows};
 ghost use Rattle.meaning.specs.Basics.{all, has};
 ghost use Rattle.meaning.specs.Graph.{rowLength, rows, values};
-ghost use Rattle.meaning.specs.Refusals.{mostRows, validRows, allServed, checked, sized};
+ghost use Rattle.meaning.specs.Refusals.{validRows, allServed, checked, sized};
 
 // Refusal 6 with the first row that is not valid.
 fn valid_rows(b: u32, n: usize, words: &[u32]) -> Answer

@@ -1,53 +1,44 @@
 -- What acceptance by the check means: both ways. Assumes nothing.
 use mathlib.Core.Path.{_≡_}
-use mathlib.Core.Bool.{Bool}
-use mathlib.Core.List.{List, [], _∷_, List·Memᴰ}
+use mathlib.Core.List.{List, [], List·Memᴰ}
 use Prim.Native.Nat.{ℕ, _*_, _^_, _≤_, _<_}
 use native.Mathlib.Omega.{arith}
-use lib.Dec.{T, leb, ltb, leb→le, le→leb, ltb→lt, lt→ltb}
+use lib.Dec.{T, ltb, leb→le, le→leb, ltb→lt, lt→ltb}
 use lib.IntN.{ℤ}
 use lib.ListN.{length}
 use Rattle.meaning.specs.declared.Answer.the-variants.{Accepted}
 use Rattle.meaning.specs.declared.Refusal.the-variants as no
-use Rattle.meaning.specs.Limits.{limit}
+use Rattle.meaning.specs.Limits.{between, bitTests, limit, mostTargets, mostRows, widthTests}
 use Rattle.meaning.specs.Constants.{oddOf}
-use Rattle.meaning.specs.Graph.{rowLength, rows, Sound, served?}
-use Rattle.meaning.specs.Refusals.{mostRows, admitOrder, checkOrder, admitted, checked, sizedOrder, sized}
-use Rattle.laws.proofs.Tests.{every-in, in-every}
-use Rattle.laws.proofs.Stages.{first-accepts, all-accept, need-accepts, of-need, each-accepts, of-each, rows-accept, of-sound}
+use Rattle.meaning.specs.Graph.{rowLength, rowTests, rows, values, Sound, served?}
+use Rattle.meaning.specs.Refusals.{admitOrder, checkOrder, admitted, checked, sizedOrder, sized}
+use Rattle.laws.proofs.Stages.{first-accepts, all-accept, need-accepts, of-need}
+use Rattle.laws.proofs.Members.{each-accepts, of-each, pass-in, in-pass}
+use Rattle.laws.proofs.Graphs.{sound-of-pass, pass-of-sound}
 
 -- a list and bit limit that are not refused
 pub record Admitted (b : ℕ) (ts : List ℤ) : Type 0 where
   pub bits : (2 ≤ b) × (b ≤ 16)
-  pub list : (1 ≤ length ts) × (length ts ≤ 16)
+  pub list : (1 ≤ length ts) × (length ts ≤ mostTargets)
   pub small : (t : ℤ) → List·Memᴰ t ts → oddOf t < 2 ^ b
 
 -- a graph that is not refused
 pub record Good (b : ℕ) (ts : List ℤ) (n : ℕ) (w : List ℕ) : Type 0 where
   pub admits : Admitted b ts
   pub room : (n ≤ mostRows) × (rowLength * n ≤ length w)
-  pub sound : Sound (limit b) (1 ∷ []) (rows n w)
-  pub serves : (t : ℤ) → List·Memᴰ t ts → T (served? (rows n w) t)
-
-abbrev bitTests : ℕ → List Bool
-bitTests b = leb 2 b ∷ leb b 16 ∷ []
-
-abbrev listTests : List ℤ → List Bool
-listTests ts = leb 1 (length ts) ∷ leb (length ts) 16 ∷ []
-
-abbrev roomTests : ℕ → List ℕ → List Bool
-roomTests n w = leb n mostRows ∷ leb (rowLength * n) (length w) ∷ []
+  pub sound : Sound (limit b) [] (rows n w)
+  pub serves : (t : ℤ) → List·Memᴰ t ts → T (served? (values (rows n w)) t)
 
 pub admitted-of : (b : ℕ) (ts : List ℤ) → admitted b ts ≡ Accepted → Admitted b ts
 unfolding admitted
 admitted-of b ts e =
     let (s1, (s2, (s3, _))) = first-accepts (admitOrder b ts) e in
     let q1 = need-accepts no.Bits (bitTests b) s1 in
-    let q2 = need-accepts no.List (listTests ts) s2 in
+    let q2 = need-accepts no.List (between 1 mostTargets (length ts)) s2 in
     record {
       bits = omega (arith, leb→le);
       list = omega (arith, leb→le);
-      small = λ t i. ltb→lt _ _ (every-in (λ t. ltb (oddOf t) (2 ^ b)) (each-accepts no.OddPart _ 1 ts s3) i);
+      small = λ t i. ltb→lt _ _ (pass-in (λ t. ltb (oddOf t) (2 ^ b)) [] ts (each-accepts no.OddPart _ [] ts s3) i);
     }
 
 pub good-of : (b : ℕ) (ts : List ℤ) (n : ℕ) (w : List ℕ) → checked b ts n w ≡ Accepted → Good b ts n w
@@ -55,18 +46,18 @@ unfolding checked
 good-of b ts n w e =
     let (s1, (s2, (s3, (s5, (s6, (s7, _)))))) = first-accepts (checkOrder b ts n w) e in
     let q1 = need-accepts no.Bits (bitTests b) s1 in
-    let q2 = need-accepts no.List (listTests ts) s2 in
-    let q5 = need-accepts no.RowCount (roomTests n w) s5 in
+    let q2 = need-accepts no.List (between 1 mostTargets (length ts)) s2 in
+    let q5 = need-accepts no.RowCount (rowTests n w) s5 in
     record {
       admits =
           record {
             bits = omega (arith, leb→le);
             list = omega (arith, leb→le);
-            small = λ t i. ltb→lt _ _ (every-in (λ t. ltb (oddOf t) (2 ^ b)) (each-accepts no.OddPart _ 1 ts s3) i);
+            small = λ t i. ltb→lt _ _ (pass-in (λ t. ltb (oddOf t) (2 ^ b)) [] ts (each-accepts no.OddPart _ [] ts s3) i);
           };
       room = omega (arith, leb→le);
-      sound = rows-accept (limit b) (1 ∷ []) 1 (rows n w) s6;
-      serves = λ t i. every-in (served? (rows n w)) (each-accepts no.Unserved (served? (rows n w)) 1 ts s7) i;
+      sound = sound-of-pass (limit b) [] (rows n w) (each-accepts no.Row _ [] (rows n w) s6);
+      serves = λ t i. pass-in (served? (values (rows n w))) [] ts (each-accepts no.Unserved _ [] ts s7) i;
     }
 
 pub of-good : (b : ℕ) (ts : List ℤ) (n : ℕ) (w : List ℕ) → Good b ts n w → checked b ts n w ≡ Accepted
@@ -76,14 +67,14 @@ of-good b ts n w g =
     all-accept (checkOrder b ts n w) (
       of-need no.Bits (bitTests b) (omega (arith, le→leb)),
       (
-        of-need no.List (listTests ts) (omega (arith, le→leb)),
+        of-need no.List (between 1 mostTargets (length ts)) (omega (arith, le→leb)),
         (
-          of-each no.OddPart (λ t. ltb (oddOf t) (2 ^ b)) 1 ts (in-every _ ts (λ t i. lt→ltb _ _ (a .small t i))),
+          of-each no.OddPart _ [] ts (in-pass (λ t. ltb (oddOf t) (2 ^ b)) [] ts (λ t i. lt→ltb _ _ (a .small t i))),
           (
-            of-need no.RowCount (roomTests n w) (omega (arith, le→leb)),
+            of-need no.RowCount (rowTests n w) (omega (arith, le→leb)),
             (
-              of-sound (limit b) (1 ∷ []) 1 (rows n w) (g .sound),
-              (of-each no.Unserved (served? (rows n w)) 1 ts (in-every (served? (rows n w)) ts (g .serves)), tt),
+              of-each no.Row _ [] (rows n w) (pass-of-sound (limit b) [] (rows n w) (g .sound)),
+              (of-each no.Unserved _ [] ts (in-pass (served? (values (rows n w))) [] ts (g .serves)), tt),
             ),
           ),
         ),
@@ -91,9 +82,6 @@ of-good b ts n w g =
     )
 
 -- ---- an input width besides
-
-abbrev widthTests : ℕ → List Bool
-widthTests input = leb 2 input ∷ leb input 32 ∷ []
 
 pub record GoodWidth (b : ℕ) (ts : List ℤ) (n : ℕ) (w : List ℕ) (input : ℕ) : Type 0 where
   pub good : Good b ts n w

@@ -8,12 +8,13 @@ use native.Mathlib.Omega.{arith}
 use native.Mathlib.Decide.{decLe}
 use lib.Dec.{T}
 use lib.ListN.{length, getD}
+use Rattle.meaning.specs.declared.Choice.{Choice}
 use Rattle.meaning.specs.declared.Row.{Row}
 use Rattle.meaning.specs.Basics.{zeros, firstSome, andThen}
 use Rattle.meaning.specs.Operation.{size, Valid}
-use Rattle.meaning.specs.Graph.{Fits}
+use Rattle.meaning.specs.Graph.{ready, Fits}
 use Rattle.meaning.specs.Distance.{gives?, reach?, Reached}
-use Rattle.meaning.specs.Generator.{chosen, rowFor}
+use Rattle.meaning.specs.Generator.{chosen, choiceFor, rowOf, rowFor}
 use Rattle.laws.proofs.Tests.{in-up, up-in, of-left, of-right, T-of, bool-ext}
 use Rattle.laws.proofs.Inverse.{valid-swap}
 use Rattle.laws.proofs.Reach.{pairs-in, sign-in, gives-of-test, test-of-gives, reach-is}
@@ -74,6 +75,12 @@ then-got (some a) f t g = g a
 
 -- ---- one choice
 
+-- a choice on the values of the indices that gives c
+pub record Chosen (L : ℕ) (vals : List ℕ) (c : ℕ) (x : Choice) : Type 0 where
+  pub first : x .u < length vals
+  pub second : x .v < length vals
+  pub operation : Valid L (getD vals (x .u) 0) (getD vals (x .v) 0) (x .l1) (x .l2) (x .s) (x .r) c
+
 module _ (L : ℕ) (vals : List ℕ) (c i j l1 l2 s : ℕ) where
   abbrev u : ℕ
   u = getD vals i 0
@@ -81,34 +88,33 @@ module _ (L : ℕ) (vals : List ℕ) (c i j l1 l2 s : ℕ) where
   abbrev v : ℕ
   v = getD vals j 0
 
-  abbrev it : Row
-  it = record { u = i; v = j; l1 = l1; l2 = l2; s = s; r = zeros (size u v l1 l2 s); value = c }
+  abbrev it : Choice
+  it = record { u = i; v = j; l1 = l1; l2 = l2; s = s; r = zeros (size u v l1 l2 s) }
 
   chosen-got : T (gives? L u v l1 l2 s c) → T (got (chosen L vals c i j l1 l2 s))
   unfolding chosen
   chosen-got t = go (gives? L u v l1 l2 s c) t
     where
-      go : (b : Bool) → T b → T (got {A = Row} (cond b (some it) none))
+      go : (b : Bool) → T b → T (got {A = Choice} (cond b (some it) none))
       go true t = tt
       go false t = t
 
-  chosen-from : (x : Row) → i < length vals → j < length vals → chosen L vals c i j l1 l2 s ≡ some x → (x .value ≡ c) × Fits L vals x
+  chosen-from : (x : Choice) → i < length vals → j < length vals → chosen L vals c i j l1 l2 s ≡ some x → Chosen L vals c x
   unfolding chosen
   chosen-from x hi hj e = go (gives? L u v l1 l2 s c) refl e
     where
-      go : (b : Bool) → gives? L u v l1 l2 s c ≡ b → cond b (some it) none ≡ some x → (x .value ≡ c) × Fits L vals x
+      go : (b : Bool) → gives? L u v l1 l2 s c ≡ b → cond b (some it) none ≡ some x → Chosen L vals c x
       go true p q =
           let same : it ≡ x = cc in
-          subst (λ y. (y .value ≡ c) × Fits L vals y) same
-          (refl, record { first = hi; second = hj; operation = gives-of-test L u v l1 l2 s c (T-of p) })
+          subst (Chosen L vals c) same (record { first = hi; second = hj; operation = gives-of-test L u v l1 l2 s c (T-of p) })
       go false p q = absurd (let z : _≡_ {A = ℕ} 0 1 = cc in omega arith)
 
 -- ---- the search
 
--- the row that is found is valid, and makes c
-pub row-from : (L : ℕ) (vals : List ℕ) (c : ℕ) (x : Row) → rowFor L vals c ≡ some x → (x .value ≡ c) × Fits L vals x
-unfolding rowFor
-row-from L vals c x e =
+-- the choice that is found is valid, and gives c
+pub choice-from : (L : ℕ) (vals : List ℕ) (c : ℕ) (x : Choice) → choiceFor L vals c ≡ some x → Chosen L vals c x
+unfolding choiceFor
+choice-from L vals c x e =
     let (i, hi, e1) = first-from _ _ _ e in
     let (j, hj, e2) = first-from _ _ _ e1 in
     let (p, hp, e3) = first-from _ _ _ e2 in
@@ -118,8 +124,9 @@ row-from L vals c x e =
     chosen-from L vals c i j (p .0) (p .1) s x (omega arith) (omega arith) e4
 
 -- one is found if there is a valid choice in order
-ordered-got : (L : ℕ) (vals : List ℕ) (c i j l1 l2 s r : ℕ) → i ≤ j → j < length vals → Valid L (getD vals i 0) (getD vals j 0) l1 l2 s r c → T (got (rowFor L vals c))
-unfolding rowFor
+ordered-got : (L : ℕ) (vals : List ℕ) (c i j l1 l2 s r : ℕ) → i ≤ j → j < length vals → Valid L (getD vals i 0) (getD vals j 0) l1 l2 s r c
+    → T (got (choiceFor L vals c))
+unfolding choiceFor
 ordered-got L vals c i j l1 l2 s r h l k =
     first-got _ (in-up 0 (length vals) i (omega arith) (omega arith))
     (first-got _ (in-up i (length vals - i) j h (omega arith))
@@ -127,16 +134,16 @@ ordered-got L vals c i j l1 l2 s r h l k =
     (first-got _ (sign-in s (k .sign)) (chosen-got L vals c i j l1 l2 s (test-of-gives L (getD vals i 0) (getD vals j 0) l1 l2 s r c k)))))
 
 -- and so if there is one in either order
-pub row-got : (L : ℕ) (vals : List ℕ) (x : Row) → Fits L vals x → T (got (rowFor L vals (x .value)))
-row-got L vals x f = go (decLe (x .u) (x .v))
+choice-got : (L : ℕ) (vals : List ℕ) (c : ℕ) (x : Choice) → Chosen L vals c x → T (got (choiceFor L vals c))
+choice-got L vals c x f = go (decLe (x .u) (x .v))
   where
-    go : Dec (x .u ≤ x .v) → T (got (rowFor L vals (x .value)))
-    go (yes h) = ordered-got L vals (x .value) (x .u) (x .v) (x .l1) (x .l2) (x .s) (x .r) h (f .second) (f .operation)
+    go : Dec (x .u ≤ x .v) → T (got (choiceFor L vals c))
+    go (yes h) = ordered-got L vals c (x .u) (x .v) (x .l1) (x .l2) (x .s) (x .r) h (f .second) (f .operation)
     go (no n) =
-        ordered-got L vals (x .value) (x .v) (x .u) (x .l2) (x .l1) (x .s) (x .r) (omega arith) (f .first)
-        (valid-swap L _ _ (x .l1) (x .l2) (x .s) (x .r) (x .value) (f .operation))
+        ordered-got L vals c (x .v) (x .u) (x .l2) (x .l1) (x .s) (x .r) (omega arith) (f .first)
+        (valid-swap L _ _ (x .l1) (x .l2) (x .s) (x .r) c (f .operation))
 
--- ---- a row is found exactly if one operation reaches the value
+-- ---- a choice is found exactly if one operation reaches the value
 
 pub getD-in {ℓ} : {A : Type ℓ} (xs : List A) (i : ℕ) (d : A) → i < length xs → List·Memᴰ (getD xs i d) xs
 getD-in [] i d h = absurd (omega arith)
@@ -147,8 +154,8 @@ in-getD : {xs : List ℕ} {u : ℕ} → List·Memᴰ u xs → (i : ℕ) × (i < 
 in-getD (List·Memᴰ·head e) = (0, omega arith, e)
 in-getD (List·Memᴰ·tail j) = let (i, h, e) = in-getD j in (suc i, omega arith, e)
 
-pub fits-reached : (L : ℕ) (vals : List ℕ) (x : Row) → Fits L vals x → Reached L vals (x .value)
-fits-reached L vals x f =
+chosen-reached : (L : ℕ) (vals : List ℕ) (c : ℕ) (x : Choice) → Chosen L vals c x → Reached L vals c
+chosen-reached L vals c x f =
     record {
       u = getD vals (x .u) 0;
       v = getD vals (x .v) 0;
@@ -157,22 +164,21 @@ fits-reached L vals x f =
       gives = record { l1 = x .l1; l2 = x .l2; s = x .s; r = x .r; valid = f .operation };
     }
 
-pub got-row : (L : ℕ) (vals : List ℕ) (c : ℕ) → got (rowFor L vals c) ≡ reach? L vals c
-got-row L vals c = bool-ext (got (rowFor L vals c)) (reach? L vals c) there back
+pub got-choice : (L : ℕ) (vals : List ℕ) (c : ℕ) → got (choiceFor L vals c) ≡ reach? L vals c
+got-choice L vals c = bool-ext (got (choiceFor L vals c)) (reach? L vals c) there back
   where
-    there : T (got (rowFor L vals c)) → T (reach? L vals c)
+    there : T (got (choiceFor L vals c)) → T (reach? L vals c)
     there t =
-        let (x, e) = found (rowFor L vals c) t in
-        let (q, f) = row-from L vals c x e in
-        reach-is L vals c .1 (subst (Reached L vals) q (fits-reached L vals x f))
+        let (x, e) = found (choiceFor L vals c) t in
+        reach-is L vals c .1 (chosen-reached L vals c x (choice-from L vals c x e))
 
-    back : T (reach? L vals c) → T (got (rowFor L vals c))
+    back : T (reach? L vals c) → T (got (choiceFor L vals c))
     back t =
         let r = reach-is L vals c .0 t in
         let (i, hi, ei) = in-getD (r .first) in
         let (j, hj, ej) = in-getD (r .second) in
         let g = r .gives in
-        row-got L vals (record { u = i; v = j; l1 = g .l1; l2 = g .l2; s = g .s; r = g .r; value = c })
+        choice-got L vals c (record { u = i; v = j; l1 = g .l1; l2 = g .l2; s = g .s; r = g .r })
         (record {
           first = hi;
           second = hj;
@@ -180,3 +186,31 @@ got-row L vals c = bool-ext (got (rowFor L vals c)) (reach? L vals c) there back
               subst (λ x. Valid L x (getD vals j 0) (g .l1) (g .l2) (g .s) (g .r) c) ei
               (subst (λ y. Valid L (r .u) y (g .l1) (g .l2) (g .s) (g .r) c) ej (g .valid));
         })
+
+-- ---- the row of a choice
+
+-- the row that is found is valid, and makes c
+pub row-from : (L : ℕ) (before : List Row) (c : ℕ) (x : Row) → rowFor L before c ≡ some x → (x .value ≡ c) × Fits L before x
+unfolding rowFor
+row-from L before c x e =
+    let (y, e1, e2) = then-from _ _ _ e in
+    let k = choice-from L (ready before) c y e1 in
+    subst (λ z. (z .value ≡ c) × Fits L before z) (some-same e2)
+    (refl, record { first = k .first; second = k .second; operation = k .operation })
+
+-- it is found exactly if one operation reaches the value
+pub got-row : (L : ℕ) (before : List Row) (c : ℕ) → got (rowFor L before c) ≡ reach? L (ready before) c
+unfolding rowFor andThen
+got-row L before c = go (choiceFor L (ready before) c) ∙ got-choice L (ready before) c
+  where
+    go : (o : Option Choice) → got (andThen o (λ x. some (rowOf c x))) ≡ got o
+    go none = refl
+    go (some x) = refl
+
+pub fits-reached : (L : ℕ) (before : List Row) (x : Row) → Fits L before x → Reached L (ready before) (x .value)
+fits-reached L before x f =
+    chosen-reached L (ready before) (x .value) (record { u = x .u; v = x .v; l1 = x .l1; l2 = x .l2; s = x .s; r = x .r })
+    (record { first = f .first; second = f .second; operation = f .operation })
+
+pub row-got : (L : ℕ) (before : List Row) (x : Row) → Fits L before x → T (got (rowFor L before (x .value)))
+row-got L before x f = subst⁻¹ T (got-row L before (x .value)) (reach-is L (ready before) (x .value) .1 (fits-reached L before x f))

@@ -17,10 +17,11 @@ use Rattle.meaning.specs.declared.Refusal.{Refusal}
 use Rattle.meaning.specs.declared.Refusal.the-variants as no
 use Rattle.meaning.specs.Basics.{any, has}
 use Rattle.meaning.specs.Distance.{reach?, serves?, candidates, distance, Reached, ReachedTwice}
-use Rattle.meaning.specs.Limits.{limit}
-use Rattle.meaning.specs.Refusals.{mostRows, firstOf, distanceOrder, farAs, distanceTold}
+use Rattle.meaning.specs.Limits.{between, bitTests, limit, mostReady}
+use Rattle.meaning.specs.Refusals.{firstOf, distanceOrder, farAs, distanceTold}
 use Rattle.laws.proofs.Tests.{both-of, of-both, any-in, in-any, every-in, true-of, bool-ext}
-use Rattle.laws.proofs.Stages.{first-accepts, need-accepts, each-accepts}
+use Rattle.laws.proofs.Stages.{first-accepts, need-accepts}
+use Rattle.laws.proofs.Members.{each-accepts, pass-in}
 use Rattle.laws.proofs.Inverse.{Odd}
 use Rattle.laws.proofs.Reach.{in-has, has-in, Within, in-candidates, reach-is, reached-odd, reached-within, reach-same}
 
@@ -175,21 +176,21 @@ distance-refused b vals c why e = ap (λ a. farAs a (distance (limit b) vals c))
 -- a bit limit, a ready list and a target that are not refused
 pub record Askable (b : ℕ) (vals : List ℕ) (c : ℕ) : Type 0 where
   pub bits : (2 ≤ b) × (b ≤ 16)
-  pub list : (1 ≤ length vals) × (length vals ≤ mostRows + 1)
+  pub list : (1 ≤ length vals) × (length vals ≤ mostReady)
   pub values : (v : ℕ) → List·Memᴰ v vals → Odd (limit b) v
   pub target : Odd b c
 
 pub askable-of : (b : ℕ) (vals : List ℕ) (c : ℕ) → firstOf (distanceOrder b vals c) ≡ Accepted → Askable b vals c
 askable-of b vals c e =
     let (s1, (s2, (s3, (s4, _)))) = first-accepts (distanceOrder b vals c) e in
-    let q1 = need-accepts no.Bits (leb 2 b ∷ leb b 16 ∷ []) s1 in
-    let q2 = need-accepts (no.Ready 0) (leb 1 (length vals) ∷ leb (length vals) (mostRows + 1) ∷ []) s2 in
+    let q1 = need-accepts no.Bits (bitTests b) s1 in
+    let q2 = need-accepts (no.Ready 0) (between 1 mostReady (length vals)) s2 in
     let q4 = need-accepts no.Target (eqb (c % 2) 1 ∷ ltb c (2 ^ b) ∷ []) s4 in
     record {
       bits = omega (arith, leb→le);
       list = omega (arith, leb→le);
       values = λ v i.
-          let p = both-of (eqb (v % 2) 1) (ltb v (2 ^ limit b)) (every-in (λ v. eqb (v % 2) 1 && ltb v (2 ^ limit b)) (each-accepts no.Ready _ 1 vals s3) i) in
+          let p = both-of (eqb (v % 2) 1) (ltb v (2 ^ limit b)) (pass-in (λ v. eqb (v % 2) 1 && ltb v (2 ^ limit b)) [] vals (each-accepts no.Ready _ [] vals s3) i) in
           (eqb→eq _ _ (p .0), ltb→lt _ _ (p .1));
       target = (eqb→eq _ _ (q4 .0), ltb→lt _ _ (q4 .1 .0));
     }

@@ -1,7 +1,7 @@
 -- The generator's graph: every row is valid, every wanted constant is made, the check accepts it, and a 129th row is never needed. Assumes nothing.
 use mathlib.Core.Path.{_≡_, refl, sym, ap, ap₂, _∙_, subst⁻¹}
 use mathlib.Core.Bool.{Bool, true, false, cond, _||_}
-use mathlib.Core.List.{List, [], _∷_, _++_, append-nil, append-assoc, List·Memᴰ, List·Memᴰ·head, List·Memᴰ·tail, List·Memᴰ·cases-cons}
+use mathlib.Core.List.{List, [], _∷_, _++_, List·Memᴰ, List·Memᴰ·head, List·Memᴰ·tail, List·Memᴰ·cases-cons}
 use mathlib.Core.Logic.{⊎-elim}
 use mathlib.Core.Option.{some}
 use Prim.Native.Nat.{ℕ, zero, suc, _*_, _≤_}
@@ -9,7 +9,7 @@ use native.Mathlib.Omega.{arith}
 use borrow.Author.Tests.{leb-false}
 use lib.Dec.{T, leb, le→leb, leb→le}
 use lib.IntN.{ℤ}
-use lib.ListN.{length, getD, drop, length-append}
+use lib.ListN.{length, drop, length-append}
 use Rattle.meaning.specs.declared.Answer.{Answer}
 use Rattle.meaning.specs.declared.Answer.the-variants.{Accepted, Refused}
 use Rattle.meaning.specs.declared.Drawn.the-variants as out
@@ -18,92 +18,87 @@ use Rattle.meaning.specs.declared.Refusal.the-variants as no
 use Rattle.meaning.specs.declared.Prefix.{Prefix}
 use Rattle.meaning.specs.declared.Row.{Row}
 use Rattle.meaning.specs.Basics.{has, indexFrom, over}
-use Rattle.meaning.specs.Limits.{limit}
+use Rattle.meaning.specs.Limits.{limit, mostRows}
 use Rattle.meaning.specs.Constants.{oddOf, wanted}
 use Rattle.meaning.specs.Operation.{Valid}
-use Rattle.meaning.specs.Graph.{rowLength, rows, flat, values, ready, Fits, Sound, served?}
+use Rattle.meaning.specs.Graph.{rowLength, rows, flat, values, ready, valueAt, Fits, Sound, served?}
 use Rattle.meaning.specs.Digits.{prefixes}
-use Rattle.meaning.specs.Generator.{remaining, ruleA, ruleB, ruleC, turn, turns, generated}
-use Rattle.meaning.specs.Refusals.{mostRows, buffer, fewRows, firstOf, admitOrder, generateOrder, admitted, checked, Done, drawnAs, drawn, drawnTold, rowsWritten, given}
+use Rattle.meaning.specs.Generator.{remaining, ruleA, ruleB, prefixRow, ruleC, added, Draft, turn, turns, generated}
+use Rattle.meaning.specs.Refusals.{buffer, fewRows, firstOf, admitOrder, generateOrder, admitted, checked, Done, drawnAs, drawn, drawnTold, rowsWritten, given}
 use Rattle.laws.proofs.Tests.{T-of}
-use Rattle.laws.proofs.Graphs.{rows-flat, length-flat}
+use Rattle.laws.proofs.Graphs.{rows-flat, length-flat, sound-append}
 use Rattle.laws.proofs.Chain.{Chain, chain-is, PrefixRow, prefix-row}
 use Rattle.laws.proofs.Stages.{never-both, first-accepts, all-accept, need-accepts, stops-at, passes-on, of-need}
 use Rattle.laws.proofs.Checked.{admitted-of, of-good}
 use Rattle.laws.proofs.Products.{index-is}
 use Rattle.laws.proofs.Reach.{in-has, has-in}
 use Rattle.laws.proofs.Wanted.{AllWanted, all-wanted, wanted-in, in-wanted, sum-most}
-use Rattle.laws.proofs.Rules.{a-from, b-from, turn-by}
-use Rattle.laws.proofs.Turn.{has-right, rowOf}
-use Rattle.laws.proofs.Remaining.{remaining-in, generated-few, all-made}
+use Rattle.laws.proofs.Rules.{a-from, b-from, added-by}
+use Rattle.laws.proofs.Turn.{made-new}
+use Rattle.laws.proofs.Remaining.{remaining-in, none-yet, generated-few, all-made}
 
 -- ---- every row is valid
 
-sound-append : (L : ℕ) (vals : List ℕ) (xs ys : List Row) → Sound L vals xs → Sound L (vals ++ values xs) ys → Sound L vals (xs ++ ys)
+sound-a : (L : ℕ) (before : List Row) (cs : List ℕ) (new : List Row) → ruleA L before cs ≡ some new → Sound L before new
 unfolding Sound
-sound-append L vals [] ys s t = rw append-nil at t
-sound-append L vals (x ∷ xs) ys s t =
-    (s .0, sound-append L (vals ++ (x .value ∷ [])) xs ys (s .1) (rw (append-assoc vals (x .value ∷ []) (values xs)) t))
+sound-a L before cs new e = let k = a-from L before cs new e in subst⁻¹ (Sound L before) (k .are) (k .fits, tt)
 
-sound-a : (L : ℕ) (vals cs : List ℕ) (new : List Row) → ruleA L vals cs ≡ some new → Sound L vals new
+sound-b : (L : ℕ) (before : List Row) (cs : List ℕ) (new : List Row) → ruleB L before cs ≡ some new → Sound L before new
 unfolding Sound
-sound-a L vals cs new e = let k = a-from L vals cs new e in subst⁻¹ (Sound L vals) (k .are) (k .fits, tt)
+sound-b L before cs new e = let k = b-from L before cs new e in subst⁻¹ (Sound L before) (k .are) (k .first-fits, (k .second-fits, tt))
 
-sound-b : (L : ℕ) (vals cs : List ℕ) (new : List Row) → ruleB L vals cs ≡ some new → Sound L vals new
-unfolding Sound
-sound-b L vals cs new e = let k = b-from L vals cs new e in subst⁻¹ (Sound L vals) (k .are) (k .first-fits, (k .second-fits, tt))
-
-prefix-fits : (b : ℕ) (rest : List ℕ) (p : Prefix) → T (has (1 ∷ rest) (p .before)) → PrefixRow b p → Fits (limit b) (1 ∷ rest) (rowOf (1 ∷ rest) p)
-prefix-fits b rest p t r =
-    let (i, e, l) = index-is 0 (1 ∷ rest) (p .before) t in
-    let same : indexFrom 0 (1 ∷ rest) (p .before) ≡ i = omega arith in
-    let there : getD (1 ∷ rest) (indexFrom 0 (1 ∷ rest) (p .before)) 0 ≡ p .before = ap (λ z. getD (1 ∷ rest) z 0) same ∙ l .at in
+prefix-fits : (b : ℕ) (before : List Row) (p : Prefix) → T (has (ready before) (p .before)) → PrefixRow b p → Fits (limit b) before (prefixRow before p)
+prefix-fits b before p t r =
+    let (i, e, l) = index-is 0 (ready before) (p .before) t in
+    let same : indexFrom 0 (ready before) (p .before) ≡ i = omega arith in
+    let there : valueAt before (indexFrom 0 (ready before) (p .before)) ≡ p .before = ap (valueAt before) same ∙ l .at in
     record {
       first = let h = l .inside in omega arith;
       second = omega arith;
       operation = subst⁻¹ (λ z. Valid (limit b) z 1 (p .gap) 0 (p .s) 0 (p .value)) there (r .valid);
     }
 
-sound-c : (b : ℕ) (rest : List ℕ) (m k : ℕ) (ps : List Prefix) → T (has (1 ∷ rest) m) → Chain m ps k → ((p : Prefix) → List·Memᴰ p ps → PrefixRow b p)
-    → Sound (limit b) (1 ∷ rest) (ruleC (1 ∷ rest) ps)
+sound-c : (b : ℕ) (before : List Row) (m k : ℕ) (ps : List Prefix) → T (has (ready before) m) → Chain m ps k → ((p : Prefix) → List·Memᴰ p ps → PrefixRow b p)
+    → Sound (limit b) before (ruleC before ps)
 unfolding ruleC Chain Sound
-sound-c b rest m k [] t c r = tt
-sound-c b rest m k (p ∷ ps) t c r =
-    go (has (1 ∷ rest) (p .value)) refl
-    (λ h. sound-c b rest (p .value) k ps h (c .1) (λ q i. r q (List·Memᴰ·tail i)))
-    (sound-c b (rest ++ (p .value ∷ [])) (p .value) k ps (has-right (1 ∷ rest) (p .value ∷ []) (p .value) (List·Memᴰ·head refl)) (c .1) (λ q i. r q (List·Memᴰ·tail i)))
+sound-c b before m k [] t c r = tt
+sound-c b before m k (p ∷ ps) t c r =
+    go (has (ready before) (p .value)) refl
+    (λ h. sound-c b before (p .value) k ps h (c .1) (λ q i. r q (List·Memᴰ·tail i)))
+    (sound-c b more (p .value) k ps (made-new before (prefixRow before p ∷ []) (p .value) (List·Memᴰ·head refl)) (c .1) (λ q i. r q (List·Memᴰ·tail i)))
   where
-    go : (t : Bool) → has (1 ∷ rest) (p .value) ≡ t
-        → (T (has (1 ∷ rest) (p .value)) → Sound (limit b) (1 ∷ rest) (ruleC (1 ∷ rest) ps))
-        → Sound (limit b) (1 ∷ rest ++ (p .value ∷ [])) (ruleC (1 ∷ rest ++ (p .value ∷ [])) ps)
-        → Sound (limit b) (1 ∷ rest) (cond t (ruleC (1 ∷ rest) ps) (rowOf (1 ∷ rest) p ∷ ruleC (1 ∷ rest ++ (p .value ∷ [])) ps))
+    more : List Row
+    more = before ++ (prefixRow before p ∷ [])
+
+    go : (t : Bool) → has (ready before) (p .value) ≡ t → (T (has (ready before) (p .value)) → Sound (limit b) before (ruleC before ps))
+        → Sound (limit b) more (ruleC more ps) → Sound (limit b) before (cond t (ruleC before ps) (prefixRow before p ∷ ruleC more ps))
     go true e f g = f (T-of e)
-    go false e f g = (prefix-fits b rest p (subst⁻¹ (λ z. T (has (1 ∷ rest) z)) (c .0 .before) t) (r p (List·Memᴰ·head refl)), g)
+    go false e f g = (prefix-fits b before p (subst⁻¹ (λ z. T (has (ready before) z)) (c .0 .before) t) (r p (List·Memᴰ·head refl)), g)
 
-sound-turn : (b : ℕ) (rest cs : List ℕ) → AllWanted b cs → Sound (limit b) (1 ∷ rest) (turn (limit b) (1 ∷ rest) cs)
-sound-turn b rest [] w = unfold turn Sound in tt
-sound-turn b rest (c ∷ cs) w =
+sound-added : (b : ℕ) (before : List Row) (cs : List ℕ) → AllWanted b cs → Sound (limit b) before (added (limit b) before cs)
+sound-added b before [] w = unfold added Sound in tt
+sound-added b before (c ∷ cs) w =
     let q = w c (List·Memᴰ·head refl) in
-    turn-by (Sound (limit b) (1 ∷ rest)) (limit b) (1 ∷ rest) c cs
-    (λ new e. sound-a (limit b) (1 ∷ rest) (c ∷ cs) new e)
-    (λ new e f. sound-b (limit b) (1 ∷ rest) (c ∷ cs) new f)
-    (λ e f. sound-c b rest 1 c (prefixes c) tt (chain-is c (q .odd)) (λ p i. prefix-row b c p (q .odd) (q .below) i))
+    added-by (Sound (limit b) before) (limit b) before c cs
+    (λ new e. sound-a (limit b) before (c ∷ cs) new e)
+    (λ new e f. sound-b (limit b) before (c ∷ cs) new f)
+    (λ e f. sound-c b before 1 c (prefixes c) tt (chain-is c (q .odd)) (λ p i. prefix-row b c p (q .odd) (q .below) i))
 
-sound-turns : (b k : ℕ) (cs : List ℕ) (made : List Row) → AllWanted b cs → Sound (limit b) (1 ∷ []) made → Sound (limit b) (1 ∷ []) (turns (limit b) k cs made)
-unfolding turns
-sound-turns b zero cs made w s = s
-sound-turns b (suc k) cs made w s =
-    let new = turn (limit b) (ready made) (remaining (ready made) cs) in
-    sound-turns b k cs (made ++ new) w
-    (sound-append (limit b) (1 ∷ []) made new s
-    (sound-turn b (values made) (remaining (ready made) cs) (λ c i. w c (remaining-in (ready made) cs c i .0))))
+sound-turns : (b k : ℕ) (cs : List ℕ) (d : Draft) → AllWanted b cs → Sound (limit b) [] (d .rows) → Sound (limit b) [] (turns (limit b) k cs d .rows)
+unfolding turns turn
+sound-turns b zero cs d w s = s
+sound-turns b (suc k) cs d w s =
+    let left = remaining (ready (d .rows)) cs in
+    sound-turns b k cs (turn (limit b) cs d) w
+    (sound-append (limit b) [] (d .rows) (added (limit b) (d .rows) left) s
+    (sound-added b (d .rows) left (λ c i. w c (remaining-in (ready (d .rows)) cs c i .0))))
 
 -- ---- a list and bit limit that are not refused
 
 module _ (b : ℕ) (ts : List ℤ) (e : admitted b ts ≡ Accepted) where
-  pub generated-sound : Sound (limit b) (1 ∷ []) (generated b ts)
+  pub generated-sound : Sound (limit b) [] (generated b ts)
   unfolding generated
-  generated-sound = sound-turns b (length (wanted ts)) (wanted ts) [] (all-wanted b ts (admitted-of b ts e)) (unfold Sound in tt)
+  generated-sound = sound-turns b (length (wanted ts)) (wanted ts) none-yet (all-wanted b ts (admitted-of b ts e)) (unfold Sound in tt)
 
   -- every wanted constant is some row's value
   pub generated-made : (c : ℕ) → List·Memᴰ c (wanted ts) → List·Memᴰ c (values (generated b ts))
@@ -111,9 +106,9 @@ module _ (b : ℕ) (ts : List ℤ) (e : admitted b ts ≡ Accepted) where
   generated-made c i =
       let (t, j, q, h) = wanted-in ts c i in
       ⊎-elim (λ p. absurd (omega arith)) (λ p. p)
-      (List·Memᴰ·cases-cons (has-in (ready (turns (limit b) (length (wanted ts)) (wanted ts) [])) c (all-made b (wanted ts) (all-wanted b ts (admitted-of b ts e)) c i)))
+      (List·Memᴰ·cases-cons (has-in (ready (turns (limit b) (length (wanted ts)) (wanted ts) none-yet .rows)) c (all-made b (wanted ts) (all-wanted b ts (admitted-of b ts e)) c i)))
 
-  generated-serves : (t : ℤ) → List·Memᴰ t ts → T (served? (generated b ts) t)
+  generated-serves : (t : ℤ) → List·Memᴰ t ts → T (served? (values (generated b ts)) t)
   unfolding served?
   generated-serves t i = go (leb (oddOf t) 1) refl
     where
@@ -131,8 +126,8 @@ module _ (b : ℕ) (ts : List ℤ) (e : admitted b ts ≡ Accepted) where
       (record {
         admits = admitted-of b ts e;
         room = (few-rows, omega (arith, length-flat (generated b ts), length-append (flat (generated b ts)) rest));
-        sound = subst⁻¹ (Sound (limit b) (1 ∷ [])) (rows-flat (generated b ts) rest) generated-sound;
-        serves = λ t i. subst⁻¹ (λ xs. T (served? xs t)) (rows-flat (generated b ts) rest) (generated-serves t i);
+        sound = subst⁻¹ (Sound (limit b) []) (rows-flat (generated b ts) rest) generated-sound;
+        serves = λ t i. subst⁻¹ (λ xs. T (served? (values xs) t)) (rows-flat (generated b ts) rest) (generated-serves t i);
       })
 
   -- stage 8 passes

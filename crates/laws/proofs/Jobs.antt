@@ -3,13 +3,14 @@ use mathlib.Core.Path.{_≡_, refl, sym, ap, _∙_}
 use mathlib.Core.List.{[], _∷_}
 use lib.Dec.{leb, le→leb}
 use lib.ListN.{length}
+use Rattle.meaning.specs.Limits.{mostRows}
 use Rattle.meaning.specs.declared.Answer.{Answer}
 use Rattle.meaning.specs.declared.Answer.the-variants.{Accepted, Refused}
 use Rattle.meaning.specs.declared.Refusal.{Refusal}
 use Rattle.meaning.specs.declared.Refusal.the-variants as no
 use Rattle.meaning.specs.Generator.{generated}
 use Rattle.meaning.specs.Job.{Asked, natural, jobOrder}
-use Rattle.meaning.specs.Refusals.{mostRows, admitOrder, admitted, fewRows, inputWidth, firstOf}
+use Rattle.meaning.specs.Refusals.{admitOrder, admitted, fewRows, inputWidth, firstOf}
 use Rattle.laws.proofs.Generated.{few-rows}
 use Rattle.laws.proofs.Stages.{stops-at, passes-on, of-need}
 

@@ -12,6 +12,7 @@ pub mod Count
 pub mod Prefixes
 pub mod Chain
 pub mod Stages
+pub mod Members
 pub mod Walks
 pub mod Over
 pub mod Checked

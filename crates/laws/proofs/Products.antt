@@ -1,6 +1,6 @@
 -- The products of valid rows, worked by their words, are their values times x; a served target's product is the target times x; an output's index is
 -- the lowest that has its odd part; rows one by one; and how large a valid row's terms are. Assumes nothing.
-use mathlib.Core.Path.{_≡_, refl, sym, ap, ap₂, _∙_, subst}
+use mathlib.Core.Path.{_≡_, refl, sym, ap, ap₂, _∙_, subst, subst⁻¹}
 use mathlib.Core.Bool.{Bool, true, false, not, cond, _||_}
 use mathlib.Core.List.{List, [], _∷_, _++_, map, append-assoc, append-nil, map-append}
 use mathlib.Core.Logic.{⊎-elim}
@@ -8,7 +8,6 @@ use Prim.Native.Nat.{ℕ, zero, suc, _+_, _-_, _*_, _%_, _^_, _≤_, _<_, min}
 use native.Mathlib.Nat.{mul-assoc, div-one, pow-succ', le-of-suc-le-suc}
 use native.Mathlib.Numerals.{add-one}
 use native.Mathlib.Omega.{arith}
-use native.Mathlib.Decide.{decLt}
 use borrow.Author.Tests.{ltb-true, eq-eqb, ne-eqb}
 use lib.Dec.{T, ltb, leb, eqb, eqb→eq, leb→le}
 use lib.IntN.{ℤ, pos, negsuc, negℤ, natAbs, _-ℤ_, _*ℤ_, zero-*ℤ, *ℤ-comm}
@@ -21,13 +20,13 @@ use Rattle.meaning.specs.declared.Row.{Row}
 use Rattle.meaning.specs.Basics.{every, has, indexFrom}
 use Rattle.meaning.specs.Constants.{signOf, shiftOf, oddOf, apart}
 use Rattle.meaning.specs.Operation.{whole, size, Outcome, Valid}
-use Rattle.meaning.specs.Graph.{rowLength, rowAt, rows, values, ready, Fits, Sound, served?, outputIndex}
+use Rattle.meaning.specs.Graph.{rowAfter, rows, values, ready, valueAt, Fits, Sound, served?, outputIndex}
 use Rattle.meaning.specs.Products.{negative?, joined, negatedIf, rowProduct, productsFrom, products, targetProduct, targetProducts}
 use Rattle.laws.proofs.Tests.{both-of, either-of, of-left, of-right, eq→eqb, T-of}
 use Rattle.laws.proofs.Zeros.{zeros-left, zeros-of-odd, zeros-low}
 use Rattle.laws.proofs.Apart.{apart-whole}
 use Rattle.laws.proofs.Operations.{exact-of, size-is}
-use Rattle.laws.proofs.Graphs.{rows-more}
+use Rattle.laws.proofs.Graphs.{rows-more, ready-append}
 
 -- ---- a row's product
 
@@ -74,14 +73,15 @@ negative-is u v l1 l2 zero = refl
 negative-is u v l1 l2 (suc s) = less-negative (2 ^ l1 * u) (2 ^ l2 * v)
 
 -- a valid row's product is its value times x, where its operands' products are
-pub row-is : (L : ℕ) (vals : List ℕ) (y : Row) (x : ℤ) → Fits L vals y → rowProduct vals (map (times x) vals) y ≡ pos (y .value) *ℤ x
+pub row-is : (L : ℕ) (before : List Row) (y : Row) (x : ℤ) → Fits L before y
+    → rowProduct (ready before) (map (times x) (ready before)) y ≡ pos (y .value) *ℤ x
 unfolding rowProduct
-row-is L vals y x f =
-    let u = getD vals (y .u) 0 in
-    let v = getD vals (y .v) 0 in
+row-is L before y x f =
+    let u = valueAt before (y .u) in
+    let v = valueAt before (y .v) in
     rw (
-      product-at x vals (y .u),
-      product-at x vals (y .v),
+      product-at x (ready before) (y .u),
+      product-at x (ready before) (y .v),
       negative-is u v (y .l1) (y .l2) (y .s),
       joined-is x u v (y .l1) (y .l2) (y .s),
       negated-is x (whole u v (y .l1) (y .l2) (y .s)),
@@ -92,12 +92,17 @@ row-is L vals y x f =
 
 -- ---- all the rows
 
-products-from : (L : ℕ) (vals : List ℕ) (xs : List Row) (x : ℤ) → Sound L vals xs → productsFrom vals (map (times x) vals) xs ≡ map (times x) (vals ++ values xs)
+products-from : (L : ℕ) (before xs : List Row) (x : ℤ) → Sound L before xs
+    → productsFrom before (map (times x) (ready before)) xs ≡ map (times x) (ready (before ++ xs))
 unfolding productsFrom Sound
-products-from L vals [] x p = ap (map (times x)) (sym (append-nil vals))
-products-from L vals (y ∷ ys) x p =
-    rw (row-is L vals y x (p .0), ← map-append (times x) vals (y .value ∷ []))
-    (products-from L (vals ++ (y .value ∷ [])) ys x (p .1) ∙ ap (map (times x)) (append-assoc vals (y .value ∷ []) (values ys)))
+products-from L before [] x p = ap (λ l. map (times x) (ready l)) (sym (append-nil before))
+products-from L before (y ∷ ys) x p =
+    let more = before ++ (y ∷ []) in
+    ap (λ ps. productsFrom more ps ys)
+    (ap (λ z. map (times x) (ready before) ++ (z ∷ [])) (row-is L before y x (p .0))
+    ∙ sym (map-append (times x) (ready before) (y .value ∷ [])) ∙ ap (map (times x)) (sym (ready-append before (y ∷ []))))
+    ∙ products-from L more ys x (p .1)
+    ∙ ap (λ l. map (times x) (ready l)) (append-assoc before (y ∷ []) ys)
 
 one-times : (x : ℤ) → pos 1 *ℤ x ≡ x
 one-times (pos n) = ap pos (omega arith)
@@ -107,9 +112,9 @@ one-times (negsuc n) = ap (λ (m : ℕ). negℤ (pos m)) (once (suc n))
     once n = omega arith
 
 -- each row's product, worked by its words, is its value times x, and the input's is x
-pub products-are : (L : ℕ) (xs : List Row) (x : ℤ) → Sound L (1 ∷ []) xs → products xs x ≡ map (λ v. pos v *ℤ x) (ready xs)
+pub products-are : (L : ℕ) (xs : List Row) (x : ℤ) → Sound L [] xs → products xs x ≡ map (λ v. pos v *ℤ x) (ready xs)
 unfolding products
-products-are L xs x g = ap (λ z. productsFrom (1 ∷ []) (z ∷ []) xs) (sym (one-times x)) ∙ products-from L (1 ∷ []) xs x g
+products-are L xs x g = ap (λ z. productsFrom [] (z ∷ []) xs) (sym (one-times x)) ∙ products-from L [] xs x g
 
 -- ---- the lowest index
 
@@ -162,11 +167,11 @@ index-end k i xs c h = rw (drop-of-length-le xs h)
 -- ---- a target's product
 
 -- of a target that is not zero
-pub served-index : (xs : List Row) (t : ℤ) → oddOf t % 2 ≡ 1 → T (served? xs t) → Lowest (ready xs) (oddOf t) (outputIndex xs t)
+pub served-index : (xs : List Row) (t : ℤ) → oddOf t % 2 ≡ 1 → T (served? (values xs) t) → Lowest (ready xs) (oddOf t) (outputIndex (ready xs) (oddOf t))
 unfolding served? outputIndex
 served-index xs t o h =
     let (i, e, l) = index-is 0 (ready xs) (oddOf t) (⊎-elim one other (either-of (leb (oddOf t) 1) (has (values xs) (oddOf t)) h)) in
-    subst (Lowest (ready xs) (oddOf t)) (sym (e ∙ omega arith)) l
+    subst (Lowest (ready xs) (oddOf t)) (sym (rw (ne-eqb (oddOf t) 0 (omega arith)) (e ∙ omega arith))) l
   where
     one : T (leb (oddOf t) 1) → T (has (ready xs) (oddOf t))
     one q = of-left (eqb 1 (oddOf t)) (has (values xs) (oddOf t)) (eq→eqb 1 (oddOf t) (omega (arith, leb→le (oddOf t) 1 q)))
@@ -174,68 +179,46 @@ served-index xs t o h =
     other : T (has (values xs) (oddOf t)) → T (has (ready xs) (oddOf t))
     other q = of-right (eqb 1 (oddOf t)) (has (values xs) (oddOf t)) q
 
-served-product : (L : ℕ) (xs : List Row) (x t : ℤ) → Sound L (1 ∷ []) xs → T (served? xs t) → oddOf t % 2 ≡ 1 → targetProduct xs x t ≡ t *ℤ x
+served-product : (L : ℕ) (xs : List Row) (x t : ℤ) → Sound L [] xs → T (served? (values xs) t) → oddOf t % 2 ≡ 1 → targetProduct (ready xs) (products xs x) t ≡ t *ℤ x
 unfolding targetProduct apart
 served-product L xs x t g h o =
-    rw (products-are L xs x g, product-at x (ready xs) (outputIndex xs t), served-index xs t o h .at)
+    rw (products-are L xs x g, product-at x (ready xs) (outputIndex (ready xs) (oddOf t)), served-index xs t o h .at)
     (ap (λ z. signOf t *ℤ z) (sym (mul-assocℤ (pos (2 ^ shiftOf t)) (pos (oddOf t)) x))
     ∙ sym (mul-assocℤ (signOf t) (pos (2 ^ shiftOf t * oddOf t)) x)
     ∙ ap (λ z. z *ℤ x) (sym (apart-whole t)))
 
 -- the product of a target is the target times x: zero and signed powers of two too
-pub target-product : (L : ℕ) (xs : List Row) (x t : ℤ) → Sound L (1 ∷ []) xs → T (served? xs t) → targetProduct xs x t ≡ t *ℤ x
+pub target-product : (L : ℕ) (xs : List Row) (x t : ℤ) → Sound L [] xs → T (served? (values xs) t) → targetProduct (ready xs) (products xs x) t ≡ t *ℤ x
 unfolding targetProduct
-target-product L xs x (pos zero) g h = zero-*ℤ (pos (2 ^ shiftOf (pos 0)) *ℤ getD (products xs x) (outputIndex xs (pos 0)) (pos 0)) ∙ sym (zero-*ℤ x)
+target-product L xs x (pos zero) g h = zero-*ℤ (pos (2 ^ shiftOf (pos 0)) *ℤ getD (products xs x) (outputIndex (ready xs) (oddOf (pos 0))) (pos 0)) ∙ sym (zero-*ℤ x)
 target-product L xs x (pos (suc n)) g h = served-product L xs x (pos (suc n)) g h (zeros-left (suc n) (omega arith))
 target-product L xs x (negsuc n) g h = served-product L xs x (negsuc n) g h (zeros-left (suc n) (omega arith))
 
 -- the products of a list of served targets
-pub target-products : (L : ℕ) (xs : List Row) (x : ℤ) (ts : List ℤ) → Sound L (1 ∷ []) xs → T (every (served? xs) ts) → targetProducts xs x ts ≡ map (λ t. t *ℤ x) ts
+pub target-products : (L : ℕ) (xs : List Row) (x : ℤ) (ts : List ℤ) → Sound L [] xs → T (every (served? (values xs)) ts) → targetProducts xs x ts ≡ map (λ t. t *ℤ x) ts
 unfolding targetProducts
 target-products L xs x [] g h = refl
 target-products L xs x (t ∷ ts) g h =
-    let p = both-of (served? xs t) (every (served? xs) ts) h in
+    let p = both-of (served? (values xs) t) (every (served? (values xs)) ts) h in
     ap₂ (λ y ys. y ∷ ys) (target-product L xs x t g (p .0)) (target-products L xs x ts g (p .1))
 
 -- ---- rows one by one
 
--- valid rows and one more after them
-pub sound-split : (L : ℕ) (vals : List ℕ) (xs ys : List Row) → Sound L vals (xs ++ ys) → Sound L vals xs × Sound L (vals ++ values xs) ys
-unfolding Sound
-sound-split L vals [] ys s = (tt, rw append-nil s)
-sound-split L vals (x ∷ xs) ys s =
-    let (a, b) = sound-split L (vals ++ (x .value ∷ [])) xs ys (s .1) in
-    ((s .0, a), rw append-assoc at b)
-
--- of n valid rows the first i are valid, and the one after them is valid over their values
-pub sound-at : (L n : ℕ) (w : List ℕ) (i : ℕ) → Sound L (1 ∷ []) (rows n w) → i < n → Sound L (1 ∷ []) (rows i w) × Fits L (ready (rows i w)) (rowAt w (rowLength * i))
-unfolding Sound
-sound-at L zero w i s h = absurd (omega arith)
-sound-at L (suc n) w i s h =
-    let (a, b) = sound-split L (1 ∷ []) (rows n w) (rowAt w (rowLength * n) ∷ []) (subst (Sound L (1 ∷ [])) (rows-more n w) s) in
-    go (decLt i n) a (b .0) (λ p. sound-at L n w i a p)
-  where
-    go : Dec (i < n) → Sound L (1 ∷ []) (rows n w) → Fits L (ready (rows n w)) (rowAt w (rowLength * n))
-        → (i < n → Sound L (1 ∷ []) (rows i w) × Fits L (ready (rows i w)) (rowAt w (rowLength * i)))
-        → Sound L (1 ∷ []) (rows i w) × Fits L (ready (rows i w)) (rowAt w (rowLength * i))
-    go (yes p) a b rest = rest p
-    go (no q) a b rest =
-        subst (λ k. Sound L (1 ∷ []) (rows k w) × Fits L (ready (rows k w)) (rowAt w (rowLength * k))) (let e : n ≡ i = omega arith in e) (a, b)
-
 -- the products of one row more
-products-snoc : (vals : List ℕ) (ps : List ℤ) (xs : List Row) (y : Row)
-    → productsFrom vals ps (xs ++ (y ∷ [])) ≡ productsFrom vals ps xs ++ (rowProduct (vals ++ values xs) (productsFrom vals ps xs) y ∷ [])
+products-snoc : (before : List Row) (ps : List ℤ) (xs : List Row) (y : Row)
+    → productsFrom before ps (xs ++ (y ∷ [])) ≡ productsFrom before ps xs ++ (rowProduct (ready (before ++ xs)) (productsFrom before ps xs) y ∷ [])
 unfolding productsFrom
-products-snoc vals ps [] y = ap (λ l. ps ++ (rowProduct l ps y ∷ [])) (sym (append-nil vals))
-products-snoc vals ps (x ∷ xs) y =
-    let qs = productsFrom (vals ++ (x .value ∷ [])) (ps ++ (rowProduct vals ps x ∷ [])) xs in
-    products-snoc (vals ++ (x .value ∷ [])) (ps ++ (rowProduct vals ps x ∷ [])) xs y
-    ∙ ap (λ l. qs ++ (rowProduct l qs y ∷ [])) (append-assoc vals (x .value ∷ []) (values xs))
+products-snoc before ps [] y = ap (λ l. ps ++ (rowProduct (ready l) ps y ∷ [])) (sym (append-nil before))
+products-snoc before ps (x ∷ xs) y =
+    let more = before ++ (x ∷ []) in
+    let qs = productsFrom more (ps ++ (rowProduct (ready before) ps x ∷ [])) xs in
+    products-snoc more (ps ++ (rowProduct (ready before) ps x ∷ [])) xs y
+    ∙ ap (λ l. qs ++ (rowProduct (ready l) qs y ∷ [])) (append-assoc before (x ∷ []) xs)
 
 pub products-more : (n : ℕ) (w : List ℕ) (x : ℤ)
-    → products (rows (suc n) w) x ≡ products (rows n w) x ++ (rowProduct (ready (rows n w)) (products (rows n w) x) (rowAt w (rowLength * n)) ∷ [])
+    → products (rows (suc n) w) x ≡ products (rows n w) x ++ (rowProduct (ready (rows n w)) (products (rows n w) x) (rowAfter w n) ∷ [])
 unfolding products
-products-more n w x = ap (productsFrom (1 ∷ []) (x ∷ [])) (rows-more n w) ∙ products-snoc (1 ∷ []) (x ∷ []) (rows n w) (rowAt w (rowLength * n))
+products-more n w x = ap (productsFrom [] (x ∷ [])) (rows-more n w) ∙ products-snoc [] (x ∷ []) (rows n w) (rowAfter w n)
 
 -- ---- how large a valid row's terms are
 
@@ -250,16 +233,16 @@ odds-end L (v ∷ vals) c o p zero h = o 0 (omega arith)
 odds-end L (v ∷ vals) c o p (suc i) h = odds-end L vals c (λ j k. o (suc j) (omega arith)) p i (le-of-suc-le-suc h)
 
 -- the values of valid rows are so, with the ones before them
-odds-from : (L : ℕ) (vals : List ℕ) (xs : List Row) → Odds L vals → Sound L vals xs → Odds L (vals ++ values xs)
+odds-from : (L : ℕ) (before xs : List Row) → Odds L (ready before) → Sound L before xs → Odds L (ready (before ++ xs))
 unfolding Sound
-odds-from L vals [] o s = rw append-nil o
-odds-from L vals (x ∷ xs) o s =
-    rw (← append-assoc vals (x .value ∷ []) (values xs))
-    (odds-from L (vals ++ (x .value ∷ [])) xs
-    (odds-end L vals (x .value) o (exact-of L _ _ _ (s .0 .operation .outcome) .odd, s .0 .operation .outcome .below)) (s .1))
+odds-from L before [] o s = subst⁻¹ (λ l. Odds L (ready l)) (append-nil before) o
+odds-from L before (x ∷ xs) o s =
+    let one = odds-end L (ready before) (x .value) o (exact-of L _ _ _ (s .0 .operation .outcome) .odd, s .0 .operation .outcome .below) in
+    subst (λ l. Odds L (ready l)) (append-assoc before (x ∷ []) xs)
+    (odds-from L (before ++ (x ∷ [])) xs (subst⁻¹ (Odds L) (ready-append before (x ∷ [])) one) (s .1))
 
-pub odds-ready : (L : ℕ) (xs : List Row) → 1 ≤ L → Sound L (1 ∷ []) xs → Odds L (ready xs)
-odds-ready L xs h s = odds-from L (1 ∷ []) xs one s
+pub odds-ready : (L : ℕ) (xs : List Row) → 1 ≤ L → Sound L [] xs → Odds L (ready xs)
+odds-ready L xs h s = odds-from L [] xs one s
   where
     one : Odds L (1 ∷ [])
     one zero k = (refl, omega (arith, pow-mono {i = 1} {j = L} h))
@@ -319,9 +302,9 @@ module _ (L u v : ℕ) (odd-u : u % 2 ≡ 1) (odd-v : v % 2 ≡ 1) (low-u : u < 
         shift = le-of-suc-le-suc (rw (k .outcome .shift) (zeros-low (suc L) (size u v l1 l2 s) (k .outcome .nonzero) m));
       }
 
-pub fits-low : (L : ℕ) (vals : List ℕ) (y : Row) → Odds L vals → Fits L vals y
-    → Low L (getD vals (y .u) 0) (getD vals (y .v) 0) (y .l1) (y .l2) (y .s) (y .r)
-fits-low L vals y o f =
+pub fits-low : (L : ℕ) (before : List Row) (y : Row) → Odds L (ready before) → Fits L before y
+    → Low L (valueAt before (y .u)) (valueAt before (y .v)) (y .l1) (y .l2) (y .s) (y .r)
+fits-low L before y o f =
     let (a, b) = o (y .u) (f .first) in
     let (c, d) = o (y .v) (f .second) in
     valid-low L _ _ a c b d (y .l1) (y .l2) (y .s) (y .r) (y .value) (f .operation)

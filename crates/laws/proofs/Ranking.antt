@@ -125,14 +125,14 @@ rows-ordered f (x ∷ xs) w s = (
 
 -- ---- the ranking
 
--- the width of row i, from 1
-abbrev pub widthOf : ℕ → List Row → ℕ → ℕ
+-- the width of row i, from 1, by the rows' values
+abbrev pub widthOf : ℕ → List ℕ → ℕ → ℕ
 widthOf w xs i = getD (map (rowWidth w) xs) (i - 1) 0
 
-pub ranking-permutes : (w : ℕ) (xs : List Row) → List·Permᴰ (ranking w xs) (upFrom 1 (length xs))
+pub ranking-permutes : (w : ℕ) (xs : List ℕ) → List·Permᴰ (ranking w xs) (upFrom 1 (length xs))
 unfolding ranking
 ranking-permutes w xs = subst (λ n. List·Permᴰ (map row (rankedFrom 1 (map (rowWidth w) xs))) (upFrom 1 n)) (length-map xs (rowWidth w)) (ranked-perm 1 (map (rowWidth w) xs))
 
-pub ranking-ordered : (w : ℕ) (xs : List Row) → InOrder (widthOf w xs) (ranking w xs)
+pub ranking-ordered : (w : ℕ) (xs : List ℕ) → InOrder (widthOf w xs) (ranking w xs)
 unfolding ranking
 ranking-ordered w xs = rows-ordered (widthOf w xs) (rankedFrom 1 (map (rowWidth w) xs)) (λ y i. ranked-in 1 (map (rowWidth w) xs) y i .1) (ranked-sorted 1 (map (rowWidth w) xs))

@@ -16,12 +16,13 @@ use Rattle.meaning.specs.Limits.{limit}
 use Rattle.meaning.specs.Constants.{wanted}
 use Rattle.meaning.specs.Graph.{values, ready}
 use Rattle.meaning.specs.Digits.{cost, csdSum}
-use Rattle.meaning.specs.Generator.{remaining, turn, turns, generated}
+use Rattle.meaning.specs.Generator.{remaining, added, Draft, turn, turns, generated}
 use Rattle.meaning.specs.Refusals.{admitted}
 use Rattle.laws.proofs.Tests.{T-of}
+use Rattle.laws.proofs.Graphs.{ready-append}
 use Rattle.laws.proofs.Checked.{admitted-of}
 use Rattle.laws.proofs.Wanted.{AllWanted, all-wanted}
-use Rattle.laws.proofs.Turn.{has-left, ready-append, turn-makes}
+use Rattle.laws.proofs.Turn.{has-left, added-makes}
 
 pub remaining-in : (vals cs : List ℕ) (d : ℕ) → List·Memᴰ d (remaining vals cs) → List·Memᴰ d cs × (T (has vals d) → ⊥)
 unfolding remaining
@@ -70,44 +71,52 @@ module _ (f : ℕ → ℕ) (vals more : List ℕ) (m : (c : ℕ) → T (has vals
 
 -- ---- a turn
 
--- the rows after one turn more
-abbrev next : ℕ → List ℕ → List Row → List Row
-next b cs made = made ++ turn (limit b) (ready made) (remaining (ready made) cs)
+-- the draft after one turn more
+abbrev next : ℕ → List ℕ → Draft → Draft
+next b cs d = turn (limit b) cs d
 
 -- nothing remains, or the turn takes one that remains off each sum
-data Turned (b : ℕ) (cs : List ℕ) (made : List Row) : Type 0 where
-  idle : remaining (ready made) cs ≡ [] → next b cs made ≡ made → Turned b cs made
-  takes : (d : ℕ) → length (next b cs made) ≤ length made + cost d
-      → ((f : ℕ → ℕ) → sumOf f (remaining (ready (next b cs made)) cs) + f d ≤ sumOf f (remaining (ready made) cs)) → Turned b cs made
+data Turned (b : ℕ) (cs : List ℕ) (d : Draft) : Type 0 where
+  idle : remaining (ready (d .rows)) cs ≡ [] → next b cs d .rows ≡ d .rows → Turned b cs d
+  takes : (c : ℕ) → length (next b cs d .rows) ≤ length (d .rows) + cost c
+      → ((f : ℕ → ℕ) → sumOf f (remaining (ready (next b cs d .rows)) cs) + f c ≤ sumOf f (remaining (ready (d .rows)) cs)) → Turned b cs d
 
-turned : (b : ℕ) (cs : List ℕ) (made : List Row) → AllWanted b cs → Turned b cs made
-turned b cs made w = go (remaining (ready made) cs) refl
+turned : (b : ℕ) (cs : List ℕ) (d : Draft) → AllWanted b cs → Turned b cs d
+unfolding turn
+turned b cs d w = go (remaining (ready made) cs) refl
   where
-    go : (rem : List ℕ) → remaining (ready made) cs ≡ rem → Turned b cs made
-    go [] e = idle e (ap (λ r. made ++ turn (limit b) (ready made) r) e ∙ unfold turn in (append-nil made))
+    made : List Row
+    made = d .rows
+
+    go : (rem : List ℕ) → remaining (ready made) cs ≡ rem → Turned b cs d
+    go [] e = idle e (ap (λ r. made ++ added (limit b) made r) e ∙ unfold added in (append-nil made))
     go (c ∷ rest) e =
         let each : AllWanted b (c ∷ rest) = λ d i. w d (remaining-in (ready made) cs d (subst⁻¹ (List·Memᴰ d) e i) .0) in
-        let t = turn-makes b (values made) c rest each in
-        let new = turn (limit b) (ready made) (c ∷ rest) in
+        let t = added-makes b made c rest each in
+        let new = added (limit b) made (c ∷ rest) in
         let i = remaining-in (ready made) cs (t .which) (subst⁻¹ (List·Memᴰ (t .which)) e (t .is-in)) in
-        let same : next b cs made ≡ made ++ new = ap (λ r. made ++ turn (limit b) (ready made) r) e in
+        let same : made ++ added (limit b) made (remaining (ready made) cs) ≡ made ++ new = ap (λ r. made ++ added (limit b) made r) e in
         takes (t .which)
         (rw (same, length-append made new) (omega (arith, t .price)))
-        (λ f. rw (same, ready-append made new)
-        (shrink-by f (ready made) (ready made ++ values new) (λ d q. has-left (ready made) (values new) d q) (t .which) (t .made) (i .1) cs (i .0)))
+        (λ f. rw same
+        (shrink-by f (ready made) (ready (made ++ new)) (λ d q. subst⁻¹ (λ l. T (has l d)) (ready-append made new) (has-left (ready made) (values new) d q))
+        (t .which) (t .made) (i .1) cs (i .0)))
 
 -- ---- all the turns
 
 -- the rows are paid for by what they take off the remaining sum
-turns-pay : (b k : ℕ) (cs : List ℕ) (made : List Row) → AllWanted b cs → length (turns (limit b) k cs made) ≤ length made + csdSum (remaining (ready made) cs)
+turns-pay : (b k : ℕ) (cs : List ℕ) (d : Draft) → AllWanted b cs → length (turns (limit b) k cs d .rows) ≤ length (d .rows) + csdSum (remaining (ready (d .rows)) cs)
 unfolding turns
-turns-pay b zero cs made w = omega arith
-turns-pay b (suc k) cs made w = go (turned b cs made w) (turns-pay b k cs (next b cs made) w)
+turns-pay b zero cs d w = omega arith
+turns-pay b (suc k) cs d w = go (turned b cs d w) (turns-pay b k cs (next b cs d) w)
   where
-    go : Turned b cs made → length (turns (limit b) k cs (next b cs made)) ≤ length (next b cs made) + csdSum (remaining (ready (next b cs made)) cs)
-        → length (turns (limit b) k cs (next b cs made)) ≤ length made + csdSum (remaining (ready made) cs)
-    go (idle e q) h = subst (λ x. length (turns (limit b) k cs (next b cs made)) ≤ length x + csdSum (remaining (ready x) cs)) q h
-    go (takes d l s) h = omega (arith, s cost)
+    all : ℕ
+    all = length (turns (limit b) k cs (next b cs d) .rows)
+
+    go : Turned b cs d → all ≤ length (next b cs d .rows) + csdSum (remaining (ready (next b cs d .rows)) cs)
+        → all ≤ length (d .rows) + csdSum (remaining (ready (d .rows)) cs)
+    go (idle e q) h = subst (λ x. all ≤ length x + csdSum (remaining (ready x) cs)) q h
+    go (takes c l s) h = omega (arith, s cost)
 
 remaining-le : (f : ℕ → ℕ) (vals cs : List ℕ) → sumOf f (remaining vals cs) ≤ sumOf f cs
 unfolding remaining sumOf
@@ -118,8 +127,12 @@ remaining-le f vals (c ∷ cs) = go (has vals c) (remaining-le f vals cs)
     go true h = omega arith
     go false h = omega arith
 
-pub turns-few : (b k : ℕ) (cs : List ℕ) → AllWanted b cs → length (turns (limit b) k cs []) ≤ csdSum cs
-turns-few b k cs w = omega (arith, turns-pay b k cs [] w, remaining-le cost (1 ∷ []) cs)
+-- from no rows
+abbrev pub none-yet : Draft
+none-yet = record { rows = [] }
+
+pub turns-few : (b k : ℕ) (cs : List ℕ) → AllWanted b cs → length (turns (limit b) k cs none-yet .rows) ≤ csdSum cs
+turns-few b k cs w = omega (arith, turns-pay b k cs none-yet w, remaining-le cost (1 ∷ []) cs)
 
 -- condition 3's sum
 pub generated-few : (b : ℕ) (ts : List ℤ) → admitted b ts ≡ Accepted → length (generated b ts) ≤ csdSum (wanted ts)
@@ -131,16 +144,18 @@ generated-few b ts e = turns-few b (length (wanted ts)) (wanted ts) (all-wanted 
 abbrev one : ℕ → ℕ
 one c = 1
 
-turns-clear : (b k : ℕ) (cs : List ℕ) (made : List Row) → AllWanted b cs
-    → sumOf one (remaining (ready (turns (limit b) k cs made)) cs) ≤ sumOf one (remaining (ready made) cs) - k
+turns-clear : (b k : ℕ) (cs : List ℕ) (d : Draft) → AllWanted b cs
+    → sumOf one (remaining (ready (turns (limit b) k cs d .rows)) cs) ≤ sumOf one (remaining (ready (d .rows)) cs) - k
 unfolding turns sumOf
-turns-clear b zero cs made w = omega arith
-turns-clear b (suc k) cs made w = go (turned b cs made w) (turns-clear b k cs (next b cs made) w)
+turns-clear b zero cs d w = omega arith
+turns-clear b (suc k) cs d w = go (turned b cs d w) (turns-clear b k cs (next b cs d) w)
   where
-    go : Turned b cs made → sumOf one (remaining (ready (turns (limit b) k cs (next b cs made))) cs) ≤ sumOf one (remaining (ready (next b cs made)) cs) - k
-        → sumOf one (remaining (ready (turns (limit b) k cs (next b cs made))) cs) ≤ sumOf one (remaining (ready made) cs) - suc k
+    left : ℕ
+    left = sumOf one (remaining (ready (turns (limit b) k cs (next b cs d) .rows)) cs)
+
+    go : Turned b cs d → left ≤ sumOf one (remaining (ready (next b cs d .rows)) cs) - k → left ≤ sumOf one (remaining (ready (d .rows)) cs) - suc k
     go (idle e q) h = omega (arith, ap (λ x. sumOf one (remaining (ready x) cs)) q, ap (sumOf one) e)
-    go (takes d l s) h = omega (arith, s one)
+    go (takes c l s) h = omega (arith, s one)
 
 sum-ones : (cs : List ℕ) → sumOf one cs ≡ length cs
 unfolding sumOf
@@ -159,7 +174,7 @@ none-left vals (d ∷ cs) e c i = go (has vals d) refl e (List·Memᴰ·cases-co
     go false p e i rec = absurd (omega arith)
 
 -- as many turns as there are constants make them all
-pub all-made : (b : ℕ) (cs : List ℕ) → AllWanted b cs → (c : ℕ) → List·Memᴰ c cs → T (has (ready (turns (limit b) (length cs) cs [])) c)
+pub all-made : (b : ℕ) (cs : List ℕ) → AllWanted b cs → (c : ℕ) → List·Memᴰ c cs → T (has (ready (turns (limit b) (length cs) cs none-yet .rows)) c)
 all-made b cs w =
-    none-left (ready (turns (limit b) (length cs) cs [])) cs
-    (omega (arith, turns-clear b (length cs) cs [] w, remaining-le one (1 ∷ []) cs, sum-ones cs))
+    none-left (ready (turns (limit b) (length cs) cs none-yet .rows)) cs
+    (omega (arith, turns-clear b (length cs) cs none-yet w, remaining-le one (1 ∷ []) cs, sum-ones cs))

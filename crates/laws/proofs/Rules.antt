@@ -1,5 +1,5 @@
 -- What steps A and B find, and when; and a turn by its three steps. Assumes nothing.
-use mathlib.Core.Path.{_≡_, refl, sym, ap, ap₂, _∙_, subst, subst⁻¹}
+use mathlib.Core.Path.{_≡_, refl, sym, ap, _∙_, subst, subst⁻¹}
 use mathlib.Core.Bool.{_&&_}
 use mathlib.Core.List.{List, [], _∷_, _++_, map, List·Memᴰ, List·Memᴰ·head, List·Memᴰ·tail, List·Memᴰ·not-nil, List·Memᴰ·cases-cons, List·Memᴰ·append-cases, List·Memᴰ·eq-of-singleton, Memᴰ·append-left, Memᴰ·append-right, Memᴰ·map, Memᴰ·of-map}
 use mathlib.Core.Logic.{⊎-elim}
@@ -8,35 +8,36 @@ use Prim.Native.Nat.{ℕ}
 use lib.Dec.{T}
 use Rattle.meaning.specs.declared.Row.{Row}
 use Rattle.meaning.specs.Basics.{andThen}
-use Rattle.meaning.specs.Graph.{Fits}
+use Rattle.meaning.specs.Graph.{ready, Fits}
 use Rattle.meaning.specs.Distance.{reach?, serves?, candidates}
 use Rattle.meaning.specs.Digits.{prefixes}
-use Rattle.meaning.specs.Generator.{rowFor, ruleA, trials, serve, ruleB, ruleC, orElse, turn}
+use Rattle.meaning.specs.Generator.{rowFor, ruleA, trials, serve, ruleB, ruleC, orElse, added}
 use Rattle.laws.proofs.Reach.{reach-same}
 use Rattle.laws.proofs.Choices.{got, some-same, first-from, first-got, then-from, then-got, row-from, got-row}
+use Rattle.laws.proofs.Graphs.{ready-append}
 
 -- ---- A
 
 -- one valid row, which makes one of the constants
-pub record ByA (L : ℕ) (vals cs : List ℕ) (new : List Row) : Type 0 where
+pub record ByA (L : ℕ) (before : List Row) (cs : List ℕ) (new : List Row) : Type 0 where
   pub which : ℕ
   pub row : Row
   pub is-in : List·Memᴰ which cs
   pub makes : row .value ≡ which
-  pub fits : Fits L vals row
+  pub fits : Fits L before row
   pub are : new ≡ row ∷ []
 
-pub a-from : (L : ℕ) (vals cs : List ℕ) (new : List Row) → ruleA L vals cs ≡ some new → ByA L vals cs new
+pub a-from : (L : ℕ) (before : List Row) (cs : List ℕ) (new : List Row) → ruleA L before cs ≡ some new → ByA L before cs new
 unfolding ruleA
-a-from L vals cs new e =
+a-from L before cs new e =
     let (d, i, e1) = first-from _ _ _ e in
     let (x, e2, e3) = then-from _ _ _ e1 in
-    let (q, f) = row-from L vals d x e2 in
+    let (q, f) = row-from L before d x e2 in
     record { which = d; row = x; is-in = i; makes = q; fits = f; are = sym (some-same e3) }
 
-pub a-got : (L : ℕ) (vals cs : List ℕ) (d : ℕ) → List·Memᴰ d cs → T (got (rowFor L vals d)) → T (got (ruleA L vals cs))
+pub a-got : (L : ℕ) (before : List Row) (cs : List ℕ) (d : ℕ) → List·Memᴰ d cs → T (got (rowFor L before d)) → T (got (ruleA L before cs))
 unfolding ruleA
-a-got L vals cs d i t = first-got _ i (then-got (rowFor L vals d) (λ x. some (x ∷ [])) t (λ x. tt))
+a-got L before cs d i t = first-got _ i (then-got (rowFor L before d) (λ x. some (x ∷ [])) t (λ x. tt))
 
 -- ---- B
 
@@ -59,24 +60,24 @@ in-trials L (d ∷ cs) c s i j =
     (List·Memᴰ·cases-cons i)
 
 -- two valid rows, of which the second makes one of the constants
-pub record ByB (L : ℕ) (vals cs : List ℕ) (new : List Row) : Type 0 where
+pub record ByB (L : ℕ) (before : List Row) (cs : List ℕ) (new : List Row) : Type 0 where
   pub which : ℕ
   pub first : Row
   pub second : Row
   pub is-in : List·Memᴰ which cs
   pub makes : second .value ≡ which
-  pub first-fits : Fits L vals first
-  pub second-fits : Fits L (vals ++ (first .value ∷ [])) second
+  pub first-fits : Fits L before first
+  pub second-fits : Fits L (before ++ (first ∷ [])) second
   pub are : new ≡ first ∷ second ∷ []
 
-pub b-from : (L : ℕ) (vals cs : List ℕ) (new : List Row) → ruleB L vals cs ≡ some new → ByB L vals cs new
+pub b-from : (L : ℕ) (before : List Row) (cs : List ℕ) (new : List Row) → ruleB L before cs ≡ some new → ByB L before cs new
 unfolding ruleB serve
-b-from L vals cs new e =
+b-from L before cs new e =
     let (p, i, e1) = first-from _ _ _ e in
     let (x, e2, e3) = then-from _ _ _ e1 in
     let (y, e4, e5) = then-from _ _ _ e3 in
-    let (q, f) = row-from L vals (p .1) x e2 in
-    let (r, g) = row-from L (vals ++ (p .1 ∷ [])) (p .0) y e4 in
+    let (q, f) = row-from L before (p .1) x e2 in
+    let (r, g) = row-from L (before ++ (x ∷ [])) (p .0) y e4 in
     record {
       which = p .0;
       first = x;
@@ -84,49 +85,57 @@ b-from L vals cs new e =
       is-in = trials-in L cs p i;
       makes = r;
       first-fits = f;
-      second-fits = subst⁻¹ (λ z. Fits L (vals ++ (z ∷ [])) y) q g;
+      second-fits = g;
       are = sym (some-same e5);
     }
 
-pub b-got : (L : ℕ) (vals cs : List ℕ) (d s : ℕ) → List·Memᴰ d cs → List·Memᴰ s (candidates L)
-    → T (got (rowFor L vals s)) → T (got (rowFor L (vals ++ (s ∷ [])) d)) → T (got (ruleB L vals cs))
-unfolding ruleB serve
-b-got L vals cs d s i j t q =
-    first-got _ (in-trials L cs d s i j)
-    (then-got (rowFor L vals s) _ t (λ x. then-got (rowFor L (vals ++ (s ∷ [])) d) (λ y. some (x ∷ y ∷ [])) q (λ y. tt)))
-
--- a trial finds something exactly if its s serves, as the distance has it
-got-both : {A B C : Type 0} (o : Option A) (p : Option B) (f : A → B → C) → got (andThen o (λ a. andThen p (λ b. some (f a b)))) ≡ (got o && got p)
-unfolding andThen
-got-both none p f = refl
-got-both (some a) none f = refl
-got-both (some a) (some b) f = refl
-
 -- the place of the new value does not matter
-reach-front : (L : ℕ) (vals : List ℕ) (s c : ℕ) → reach? L (vals ++ (s ∷ [])) c ≡ reach? L (s ∷ vals) c
+pub reach-front : (L : ℕ) (vals : List ℕ) (s c : ℕ) → reach? L (vals ++ (s ∷ [])) c ≡ reach? L (s ∷ vals) c
 reach-front L vals s c =
     reach-same L (vals ++ (s ∷ [])) (s ∷ vals) c
     (λ a i. ⊎-elim (λ j. List·Memᴰ·tail j) (λ j. List·Memᴰ·head (List·Memᴰ·eq-of-singleton j)) (List·Memᴰ·append-cases vals i))
     (λ a i. ⊎-elim (λ e. Memᴰ·append-right vals (List·Memᴰ·head e)) (λ j. Memᴰ·append-left (s ∷ []) j) (List·Memᴰ·cases-cons i))
 
-pub serve-got : (L : ℕ) (vals : List ℕ) (c s : ℕ) → got (serve L vals (c, s)) ≡ serves? L vals c s
-unfolding serve serves?
-serve-got L vals c s =
-    got-both (rowFor L vals s) (rowFor L (vals ++ (s ∷ [])) c) (λ x y. x ∷ y ∷ [])
-    ∙ ap₂ _&&_ (got-row L vals s) (got-row L (vals ++ (s ∷ [])) c ∙ reach-front L vals s c)
+-- a trial finds something exactly if its s serves, as the distance has it
+pub serve-got : (L : ℕ) (before : List Row) (c s : ℕ) → got (serve L before (c, s)) ≡ serves? L (ready before) c s
+unfolding serve serves? andThen
+serve-got L before c s = go (rowFor L before s) refl (sym (got-row L before s))
+  where
+    second : Row → Option (List Row)
+    second x = andThen (rowFor L (before ++ (x ∷ [])) c) (λ y. some (x ∷ y ∷ []))
+
+    got-second : (x : Row) (o : Option Row) → got (andThen o (λ y. some (x ∷ y ∷ []))) ≡ got o
+    got-second x none = refl
+    got-second x (some y) = refl
+
+    go : (o : Option Row) → rowFor L before s ≡ o → reach? L (ready before) s ≡ got (rowFor L before s)
+        → got (andThen o second) ≡ (reach? L (ready before) s && reach? L (s ∷ ready before) c)
+    go none e r = rw (r, e)
+    go (some x) e r =
+        let same = row-from L before s x e .0 in
+        got-second x (rowFor L (before ++ (x ∷ [])) c)
+        ∙ got-row L (before ++ (x ∷ [])) c
+        ∙ ap (λ l. reach? L l c) (ready-append before (x ∷ []) ∙ ap (λ v. ready before ++ (v ∷ [])) same)
+        ∙ reach-front L (ready before) s c
+        ∙ sym (rw (r, e))
+
+pub b-got : (L : ℕ) (before : List Row) (cs : List ℕ) (d s : ℕ) → List·Memᴰ d cs → List·Memᴰ s (candidates L)
+    → T (serves? L (ready before) d s) → T (got (ruleB L before cs))
+unfolding ruleB
+b-got L before cs d s i j t = first-got _ (in-trials L cs d s i j) (subst⁻¹ T (serve-got L before d s) t)
 
 -- ---- a turn
 
 -- what holds of the rows of each step, where the steps before it find nothing, holds of a turn's rows
-module _ {ℓ} (P : List Row → Type ℓ) (L : ℕ) (vals : List ℕ) (c : ℕ) (cs : List ℕ)
-    (by-a : (new : List Row) → ruleA L vals (c ∷ cs) ≡ some new → P new)
-    (by-b : (new : List Row) → ruleA L vals (c ∷ cs) ≡ none → ruleB L vals (c ∷ cs) ≡ some new → P new)
-    (by-c : ruleA L vals (c ∷ cs) ≡ none → ruleB L vals (c ∷ cs) ≡ none → P (ruleC vals (prefixes c))) where
-  pub turn-by : P (turn L vals (c ∷ cs))
-  unfolding turn orElse
-  turn-by = go (ruleA L vals (c ∷ cs)) (ruleB L vals (c ∷ cs)) refl refl
+module _ {ℓ} (P : List Row → Type ℓ) (L : ℕ) (before : List Row) (c : ℕ) (cs : List ℕ)
+    (by-a : (new : List Row) → ruleA L before (c ∷ cs) ≡ some new → P new)
+    (by-b : (new : List Row) → ruleA L before (c ∷ cs) ≡ none → ruleB L before (c ∷ cs) ≡ some new → P new)
+    (by-c : ruleA L before (c ∷ cs) ≡ none → ruleB L before (c ∷ cs) ≡ none → P (ruleC before (prefixes c))) where
+  pub added-by : P (added L before (c ∷ cs))
+  unfolding added orElse
+  added-by = go (ruleA L before (c ∷ cs)) (ruleB L before (c ∷ cs)) refl refl
     where
-      go : (a b : Option (List Row)) → ruleA L vals (c ∷ cs) ≡ a → ruleB L vals (c ∷ cs) ≡ b → P (orElse a (orElse b (ruleC vals (prefixes c))))
+      go : (a b : Option (List Row)) → ruleA L before (c ∷ cs) ≡ a → ruleB L before (c ∷ cs) ≡ b → P (orElse a (orElse b (ruleC before (prefixes c))))
       go none none e f = by-c e f
       go none (some y) e f = by-b y e f
       go (some x) b e f = by-a x e

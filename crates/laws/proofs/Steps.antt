@@ -11,6 +11,7 @@ use lib.Seq.{drop-cons}
 use Rattle.meaning.specs.declared.Prefix.{Prefix}
 use Rattle.meaning.specs.declared.Row.{Row}
 use Rattle.meaning.specs.Basics.{has, firstSome, andThen}
+use Rattle.meaning.specs.Graph.{ready}
 use Rattle.meaning.specs.Distance.{reach?}
 use Rattle.meaning.specs.Generator.{rowFor, remaining, ruleA, prefixRow, ruleC}
 use Rattle.laws.proofs.Choices.{got, got-row}
@@ -20,8 +21,8 @@ use Rattle.laws.proofs.Choices.{got, got-row}
 abbrev pub near : ℕ → List ℕ → ℕ → Option ℕ
 near L vals c = cond (reach? L vals c) (some c) none
 
-abbrev rowOf : ℕ → List ℕ → ℕ → Option (List Row)
-rowOf L vals c = andThen (rowFor L vals c) (λ x. some (x ∷ []))
+abbrev rowOf : ℕ → List Row → ℕ → Option (List Row)
+rowOf L before c = andThen (rowFor L before c) (λ x. some (x ∷ []))
 
 abbrev or {ℓ} : {A : Type ℓ} → Option A → Option A → Option A
 or none r = r
@@ -36,23 +37,23 @@ first-step {B = B} f x xs = go (f x)
     go (some b) = refl
 
 -- the first that is reached, and its row
-pub rule-a-is : (L : ℕ) (vals cs : List ℕ) → ruleA L vals cs ≡ andThen (firstSome (near L vals) cs) (rowOf L vals)
+pub rule-a-is : (L : ℕ) (before : List Row) (cs : List ℕ) → ruleA L before cs ≡ andThen (firstSome (near L (ready before)) cs) (rowOf L before)
 unfolding ruleA
-rule-a-is L vals [] = unfold firstSome andThen in refl
-rule-a-is L vals (c ∷ cs) =
-    first-step (rowOf L vals) c cs
-    ∙ go (rowFor L vals c) (reach? L vals c) refl (got-row L vals c) (rule-a-is L vals cs)
-    ∙ ap (λ o. andThen o (rowOf L vals)) (sym (first-step (near L vals) c cs))
+rule-a-is L before [] = unfold firstSome andThen in refl
+rule-a-is L before (c ∷ cs) =
+    first-step (rowOf L before) c cs
+    ∙ go (rowFor L before c) (reach? L (ready before) c) refl (got-row L before c) (rule-a-is L before cs)
+    ∙ ap (λ o. andThen o (rowOf L before)) (sym (first-step (near L (ready before)) c cs))
   where
     rest : Option ℕ
-    rest = firstSome (near L vals) cs
+    rest = firstSome (near L (ready before)) cs
 
-    go : (o : Option Row) (b : Bool) → rowFor L vals c ≡ o → got (rowFor L vals c) ≡ b → firstSome (rowOf L vals) cs ≡ andThen rest (rowOf L vals)
-        → or (rowOf L vals c) (firstSome (rowOf L vals) cs) ≡ andThen (or (cond b (some c) none) rest) (rowOf L vals)
+    go : (o : Option Row) (b : Bool) → rowFor L before c ≡ o → got (rowFor L before c) ≡ b → firstSome (rowOf L before) cs ≡ andThen rest (rowOf L before)
+        → or (rowOf L before c) (firstSome (rowOf L before) cs) ≡ andThen (or (cond b (some c) none) rest) (rowOf L before)
     go none true e f ih = absurd (let q : false ≡ true = sym (ap got e) ∙ f in let z : _≡_ {A = ℕ} 0 1 = cc in omega arith)
-    go none false e f ih = ap (λ o. or (andThen o (λ x. some (x ∷ []))) (firstSome (rowOf L vals) cs)) e ∙ (unfold andThen in ih)
+    go none false e f ih = ap (λ o. or (andThen o (λ x. some (x ∷ []))) (firstSome (rowOf L before) cs)) e ∙ (unfold andThen in ih)
     go (some x) true e f ih =
-        ap (λ o. or (andThen o (λ x. some (x ∷ []))) (firstSome (rowOf L vals) cs)) e ∙ sym (unfold andThen in (ap (λ o. andThen o (λ x. some (x ∷ []))) e))
+        ap (λ o. or (andThen o (λ x. some (x ∷ []))) (firstSome (rowOf L before) cs)) e ∙ sym (unfold andThen in (ap (λ o. andThen o (λ x. some (x ∷ []))) e))
     go (some x) false e f ih = absurd (let q : true ≡ false = sym (ap got e) ∙ f in let z : _≡_ {A = ℕ} 0 1 = cc in omega arith)
 
 -- ---- the constants that remain, one after the other
@@ -72,16 +73,16 @@ remaining-end vals cs i h = rw (drop-of-length-le cs h)
 
 -- ---- step C, prefix by prefix
 
-pub rule-c-ready : (vals : List ℕ) (ps : List Prefix) (i : ℕ) (d : Prefix) → i < length ps → has vals (getD ps i d .value) ≡ true
-    → ruleC vals (drop i ps) ≡ ruleC vals (drop (i + 1) ps)
+pub rule-c-ready : (before : List Row) (ps : List Prefix) (i : ℕ) (d : Prefix) → i < length ps → has (ready before) (getD ps i d .value) ≡ true
+    → ruleC before (drop i ps) ≡ ruleC before (drop (i + 1) ps)
 unfolding ruleC
-rule-c-ready vals ps i d h e = rw (drop-cons ps i d h, e, add-one i)
+rule-c-ready before ps i d h e = rw (drop-cons ps i d h, e, add-one i)
 
-pub rule-c-row : (vals : List ℕ) (ps : List Prefix) (i : ℕ) (d : Prefix) → i < length ps → has vals (getD ps i d .value) ≡ false
-    → ruleC vals (drop i ps) ≡ prefixRow vals (getD ps i d) ∷ ruleC (vals ++ (getD ps i d .value ∷ [])) (drop (i + 1) ps)
+pub rule-c-row : (before : List Row) (ps : List Prefix) (i : ℕ) (d : Prefix) → i < length ps → has (ready before) (getD ps i d .value) ≡ false
+    → let x = prefixRow before (getD ps i d) in ruleC before (drop i ps) ≡ x ∷ ruleC (before ++ (x ∷ [])) (drop (i + 1) ps)
 unfolding ruleC
-rule-c-row vals ps i d h e = rw (drop-cons ps i d h, e, add-one i)
+rule-c-row before ps i d h e = rw (drop-cons ps i d h, e, add-one i)
 
-pub rule-c-end : (vals : List ℕ) (ps : List Prefix) (i : ℕ) → length ps ≤ i → ruleC vals (drop i ps) ≡ []
+pub rule-c-end : (before : List Row) (ps : List Prefix) (i : ℕ) → length ps ≤ i → ruleC before (drop i ps) ≡ []
 unfolding ruleC
-rule-c-end vals ps i h = rw (drop-of-length-le ps h)
+rule-c-end before ps i h = rw (drop-of-length-le ps h)

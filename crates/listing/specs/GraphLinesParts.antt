@@ -3,10 +3,10 @@ use mathlib.Core.List.{List, [], _∷_, map}
 use Prim.Native.Nat.{ℕ, _*_, _≤_}
 use lib.IntN.{pos}
 use lib.ListN.{length}
+use Rattle.meaning.specs.Limits.{mostRows}
 use Rattle.meaning.specs.declared.Row.{Row}
 use Rattle.meaning.specs.Graph.{rowLength}
 use Rattle.meaning.specs.Listing.{Field, _is_, fieldText, pieces, line}
-use Rattle.meaning.specs.Refusals.{mostRows}
 
 -- n rows are within the slice
 abbrev pub Within : ℕ → List ℕ → Type 0

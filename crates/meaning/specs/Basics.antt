@@ -1,4 +1,5 @@
 -- What the other pages share: tests and searches over lists, and the count of trailing zero bits. Assumes nothing.
+use mathlib.Core.Path.{_≡_}
 use mathlib.Core.Bool.{Bool, true, false, _&&_, _||_, cond}
 use mathlib.Core.List.{List, [], _∷_, _++_}
 use mathlib.Core.Option.{Option, some, none}
@@ -43,6 +44,21 @@ upFrom k (suc n) = k ∷ upFrom (suc k) n
 unfoldable pub sumOf : (ℕ → ℕ) → List ℕ → ℕ
 sumOf f [] = 0
 sumOf f (c ∷ cs) = f c + sumOf f cs
+
+-- P holds of no member, each seen after those before it
+unfoldable pub NoneOf : {A : Type 0} → (List A → A → Type 0) → List A → List A → Type 0
+NoneOf P before [] = Unit {0}
+NoneOf P before (x ∷ xs) = (¬ P before x) × NoneOf P (before ++ (x ∷ [])) xs
+
+-- P holds of the member at place p, counted from 1, and of none before it
+pub record First {A : Type 0} (P : List A → A → Type 0) (xs : List A) (p : ℕ) : Type 0 where
+  pub before : List A
+  pub there : A
+  pub behind : List A
+  pub split : xs ≡ before ++ (there ∷ behind)
+  pub none-before : NoneOf P [] before
+  pub holds : P before there
+  pub place : p ≡ length before + 1
 
 -- what the first member that gives something gives
 unfoldable pub firstSome {ℓ κ} : {A : Type ℓ} {B : Type κ} → (A → Option B) → List A → Option B

@@ -1,13 +1,13 @@
 -- A graph: rows of words in a slice, and when they are valid. Assumes nothing.
-use mathlib.Core.Bool.{Bool, _&&_, _||_}
+use mathlib.Core.Bool.{Bool, _&&_, _||_, cond}
 use mathlib.Core.List.{List, [], _∷_, _++_, map}
 use Prim.Native.Nat.{ℕ, zero, suc, _+_, _*_, _<_}
-use lib.Dec.{ltb, leb}
+use lib.Dec.{ltb, leb, eqb}
 use lib.IntN.{ℤ}
 use lib.ListN.{length, getD, drop}
 use Rattle.meaning.specs.declared.Row.{Row}
 use Rattle.meaning.specs.Basics.{has, indexFrom}
-use Rattle.meaning.specs.Limits.{limit}
+use Rattle.meaning.specs.Limits.{mostRows}
 use Rattle.meaning.specs.Constants.{oddOf}
 use Rattle.meaning.specs.Operation.{Valid, valid?}
 
@@ -31,6 +31,14 @@ rowAt w k =
       value = getD w (k + 6) 0;
     }
 
+-- the row after i rows
+abbrev pub rowAfter : List ℕ → ℕ → Row
+rowAfter w i = rowAt w (rowLength * i)
+
+-- n rows are at most 128, and do not exceed the slice
+abbrev pub rowTests : ℕ → List ℕ → List Bool
+rowTests n w = leb n mostRows ∷ leb (rowLength * n) (length w) ∷ []
+
 -- the first n rows of a slice
 unfoldable pub rows : ℕ → List ℕ → List Row
 rows zero w = []
@@ -49,33 +57,32 @@ values xs = map (λ x. x .value) xs
 abbrev pub ready : List Row → List ℕ
 ready xs = 1 ∷ values xs
 
--- a row's words agree with a valid operation on the values of indices below its own
-pub record Fits (L : ℕ) (vals : List ℕ) (x : Row) : Type 0 where
-  pub first : x .u < length vals
-  pub second : x .v < length vals
-  pub operation : Valid L (getD vals (x .u) 0) (getD vals (x .v) 0) (x .l1) (x .l2) (x .s) (x .r) (x .value)
+-- the value of an index, of the input or of one of some rows
+abbrev pub valueAt : List Row → ℕ → ℕ
+valueAt xs index = getD (ready xs) index 0
+
+-- a row's words agree with a valid operation on the values of indices below its own, which are those of the rows before it
+pub record Fits (L : ℕ) (before : List Row) (x : Row) : Type 0 where
+  pub first : x .u < length (ready before)
+  pub second : x .v < length (ready before)
+  pub operation : Valid L (valueAt before (x .u)) (valueAt before (x .v)) (x .l1) (x .l2) (x .s) (x .r) (x .value)
 
 -- the same, as a test
-unfoldable pub fits? : ℕ → List ℕ → Row → Bool
-fits? L vals x =
-    ltb (x .u) (length vals)
-    && (ltb (x .v) (length vals)
-    && valid? L (getD vals (x .u) 0) (getD vals (x .v) 0) (x .l1) (x .l2) (x .s) (x .r) (x .value))
+unfoldable pub fits? : ℕ → List Row → Row → Bool
+fits? L before x =
+    ltb (x .u) (length (ready before))
+    && (ltb (x .v) (length (ready before))
+    && valid? L (valueAt before (x .u)) (valueAt before (x .v)) (x .l1) (x .l2) (x .s) (x .r) (x .value))
 
--- the row after i rows of a slice is within it and valid over those rows' values, under the bit limit b
-unfoldable pub rowFits : ℕ → List ℕ → ℕ → Bool
-rowFits b w i =
-    (leb 2 b && leb b 16) && (leb (rowLength * (i + 1)) (length w) && fits? (limit b) (ready (rows i w)) (rowAt w (rowLength * i)))
+-- each row is valid after those before it
+unfoldable pub Sound : ℕ → List Row → List Row → Type 0
+Sound L before [] = Unit {0}
+Sound L before (x ∷ xs) = Fits L before x × Sound L (before ++ (x ∷ [])) xs
 
--- each row is valid over the values before it
-unfoldable pub Sound : ℕ → List ℕ → List Row → Type 0
-Sound L vals [] = Unit {0}
-Sound L vals (x ∷ xs) = Fits L vals x × Sound L (vals ++ (x .value ∷ [])) xs
+-- a target needs no row, or its odd part is the value of some row; vals are the rows' values
+unfoldable pub served? : List ℕ → ℤ → Bool
+served? vals t = leb (oddOf t) 1 || has vals (oddOf t)
 
--- a target needs no row, or its odd part is some row's value
-unfoldable pub served? : List Row → ℤ → Bool
-served? xs t = leb (oddOf t) 1 || has (values xs) (oddOf t)
-
--- the index that an output uses: the lowest that has its odd part as value; a zero target's is 0
-unfoldable pub outputIndex : List Row → ℤ → ℕ
-outputIndex xs t = indexFrom 0 (ready xs) (oddOf t)
+-- the index that an output of some odd part uses: the lowest that has it as value; a zero target, which has none, uses 0. vals are the values by index
+unfoldable pub outputIndex : List ℕ → ℕ → ℕ
+outputIndex vals odd = cond (eqb odd 0) 0 (indexFrom 0 vals odd)

@@ -14,9 +14,9 @@ use Rattle.meaning.specs.declared.Refusal.{Refusal}
 use Rattle.meaning.specs.declared.Refusal.the-variants as no
 use Rattle.meaning.specs.declared.Row.{Row}
 use Rattle.meaning.specs.Basics.{upFrom}
-use Rattle.meaning.specs.Constants.{signOf, shiftOf, wanted}
+use Rattle.meaning.specs.Constants.{signOf, shiftOf, oddOf, wanted}
 use Rattle.meaning.specs.Digits.{csdSum}
-use Rattle.meaning.specs.Graph.{rowAt, outputIndex}
+use Rattle.meaning.specs.Graph.{rowAt, values, ready, outputIndex}
 use Rattle.meaning.specs.Generator.{generated}
 use Rattle.meaning.specs.Widths.{rowWidth, outputWidth, ranking}
 use Rattle.meaning.specs.Refusals.{number, placeOf, firstOf}
@@ -76,11 +76,11 @@ refusedLine why = line ("refused=" is pos (number why) ∷ " place=" is pos (pla
 
 -- by the ranking or by row number
 abbrev pub rowOrder : Bool → ℕ → List Row → List ℕ
-rowOrder byWidth input xs = cond byWidth (ranking input xs) (upFrom 1 (length xs))
+rowOrder byWidth input xs = cond byWidth (ranking input (values xs)) (upFrom 1 (length xs))
 
 -- the line of row i
 abbrev pub rowText : ℕ → List Row → ℕ → List ℕ
-rowText input xs i = let x : Row = getD xs (i - 1) (rowAt [] 0) in rowLine i x (rowWidth input x)
+rowText input xs i = let x : Row = getD xs (i - 1) (rowAt [] 0) in rowLine i x (rowWidth input (x .value))
 
 unfoldable pub rowTexts : ℕ → List Row → List ℕ → List ℕ
 rowTexts input xs [] = []
@@ -88,7 +88,7 @@ rowTexts input xs (i ∷ order) = rowText input xs i ++ rowTexts input xs order
 
 -- the line of target k
 abbrev pub outText : ℕ → List Row → ℕ → ℤ → List ℕ
-outText input xs k t = outLine k (outputIndex xs t) (shiftOf t) (signOf t) (outputWidth input t)
+outText input xs k t = outLine k (outputIndex (ready xs) (oddOf t)) (shiftOf t) (signOf t) (outputWidth input t)
 
 unfoldable pub outTexts : ℕ → List Row → ℕ → List ℤ → List ℕ
 outTexts input xs k [] = []

@@ -1,6 +1,6 @@
 -- The operation, of u and v with left shifts l1 and l2, a sign s and a right shift r, under the limit L. Assumes nothing.
 use mathlib.Core.Path.{_≡_}
-use mathlib.Core.Bool.{Bool, _&&_, cond}
+use mathlib.Core.Bool.{Bool, cond}
 use mathlib.Core.List.{List, [], _∷_}
 use Prim.Native.Nat.{ℕ, zero, suc, _+_, _*_, _/_, _^_, _≤_, _<_, min}
 use lib.Dec.{leb, ltb, eqb}
@@ -8,7 +8,7 @@ use lib.IntN.{ℤ, pos, _+ℤ_, _-ℤ_}
 use Rattle.meaning.specs.declared.Operated.{Operated}
 use Rattle.meaning.specs.declared.Operated.the-variants.{Made, Invalid}
 use Rattle.meaning.specs.Basics.{difference, all, zeros}
-use Rattle.meaning.specs.Limits.{limit}
+use Rattle.meaning.specs.Limits.{bitTests, limit}
 
 -- n = 2^l1 × u + (-1)^s × 2^l2 × v
 abbrev pub whole : (u v l1 l2 s : ℕ) → ℤ
@@ -66,4 +66,4 @@ operated L u v l1 l2 s =
 
 -- the same under the bit limit b, which is 2 to 16
 unfoldable pub operatedUnder : (b u v l1 l2 s : ℕ) → Operated
-operatedUnder b u v l1 l2 s = cond (leb 2 b && leb b 16) (operated (limit b) u v l1 l2 s) Invalid
+operatedUnder b u v l1 l2 s = cond (all (bitTests b)) (operated (limit b) u v l1 l2 s) Invalid

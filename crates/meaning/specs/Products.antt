@@ -7,8 +7,8 @@ use lib.IntN.{ℤ, pos, negℤ, _+ℤ_, _-ℤ_, _*ℤ_}
 use lib.Signed.{quotZ}
 use lib.ListN.{getD}
 use Rattle.meaning.specs.declared.Row.{Row}
-use Rattle.meaning.specs.Constants.{signOf, shiftOf}
-use Rattle.meaning.specs.Graph.{outputIndex}
+use Rattle.meaning.specs.Constants.{signOf, shiftOf, oddOf}
+use Rattle.meaning.specs.Graph.{ready, outputIndex}
 
 -- n is negative: s is 1 and 2^l1 u is less than 2^l2 v
 abbrev pub negative? : (u v l1 l2 s : ℕ) → Bool
@@ -33,18 +33,18 @@ rowProduct vals ps x =
     (joined (getD ps (x .u) (pos 0)) (getD ps (x .v) (pos 0)) (x .l1) (x .l2) (x .s)))
     (pos (2 ^ x .r))
 
--- the products by index, after those in ps
-unfoldable pub productsFrom : List ℕ → List ℤ → List Row → List ℤ
-productsFrom vals ps [] = ps
-productsFrom vals ps (x ∷ xs) = productsFrom (vals ++ (x .value ∷ [])) (ps ++ (rowProduct vals ps x ∷ [])) xs
+-- the products by index, after those in ps, which are of the rows before
+unfoldable pub productsFrom : List Row → List ℤ → List Row → List ℤ
+productsFrom before ps [] = ps
+productsFrom before ps (x ∷ xs) = productsFrom (before ++ (x ∷ [])) (ps ++ (rowProduct (ready before) ps x ∷ [])) xs
 
 -- the input's product is x
 unfoldable pub products : List Row → ℤ → List ℤ
-products xs x = productsFrom (1 ∷ []) (x ∷ []) xs
+products xs x = productsFrom [] (x ∷ []) xs
 
--- the product of a target: sign × 2^shift × its row's product
-unfoldable pub targetProduct : List Row → ℤ → ℤ → ℤ
-targetProduct xs x t = signOf t *ℤ (pos (2 ^ shiftOf t) *ℤ getD (products xs x) (outputIndex xs t) (pos 0))
+-- the product of a target: sign × 2^shift × its row's product, by the values and the products of the indices
+unfoldable pub targetProduct : List ℕ → List ℤ → ℤ → ℤ
+targetProduct vals ps t = signOf t *ℤ (pos (2 ^ shiftOf t) *ℤ getD ps (outputIndex vals (oddOf t)) (pos 0))
 
 unfoldable pub targetProducts : List Row → ℤ → List ℤ → List ℤ
-targetProducts xs x ts = map (targetProduct xs x) ts
+targetProducts xs x ts = map (targetProduct (ready xs) (products xs x)) ts

@@ -1,9 +1,9 @@
 -- Numbers handed back on refusal: the table, the order in which each call looks, and what it writes. Assumes nothing.
 use mathlib.Core.Path.{_≡_}
-use mathlib.Core.Bool.{Bool, false, _&&_, cond}
+use mathlib.Core.Bool.{Bool, _&&_, cond}
 use mathlib.Core.List.{List, [], _∷_, _++_}
-use Prim.Native.Nat.{ℕ, suc, _+_, _*_, _%_, _^_}
-use lib.Dec.{T, leb, ltb, eqb}
+use Prim.Native.Nat.{ℕ, _+_, _*_, _%_, _^_}
+use lib.Dec.{leb, ltb, eqb}
 use lib.IntN.{ℤ}
 use lib.ListN.{length}
 use Rattle.meaning.specs.declared.Answer.{Answer}
@@ -15,10 +15,10 @@ use Rattle.meaning.specs.declared.Drawn.the-variants as out
 use Rattle.meaning.specs.declared.Row.{Row}
 use Rattle.meaning.specs.declared.Refusal.{Refusal}
 use Rattle.meaning.specs.declared.Refusal.the-variants as no
-use Rattle.meaning.specs.Basics.{all, every, over}
-use Rattle.meaning.specs.Limits.{limit}
+use Rattle.meaning.specs.Basics.{all, over}
+use Rattle.meaning.specs.Limits.{between, bitTests, limit, mostTargets, mostRows, mostReady, widthTests}
 use Rattle.meaning.specs.Constants.{oddOf}
-use Rattle.meaning.specs.Graph.{rowLength, rows, flat, ready, Fits, fits?, Sound, served?}
+use Rattle.meaning.specs.Graph.{rowLength, rowTests, rows, flat, values, fits?, served?}
 use Rattle.meaning.specs.Distance.{distance}
 use Rattle.meaning.specs.Generator.{generated}
 use Rattle.meaning.specs.Products.{targetProducts}
@@ -61,35 +61,22 @@ placeOf (no.Job p) = p
 abbrev pub need : Refusal → List Bool → Answer
 need why tests = cond (all tests) Accepted (Refused why)
 
--- refused at the first member that fails the test, places from k
-unfoldable pub needEach : {A : Type 0} → (ℕ → Refusal) → (A → Bool) → ℕ → List A → Answer
-needEach why test k [] = Accepted
-needEach why test k (x ∷ xs) = cond (test x) (needEach why test (suc k) xs) (Refused (why k))
-
--- the same, as a statement: the first member that fails the test stands at place p, counted from 1
-pub record FirstBad {A : Type 0} (test : A → Bool) (xs : List A) (p : ℕ) : Type 0 where
-  pub before : List A
-  pub bad : A
-  pub after : List A
-  pub split : xs ≡ before ++ (bad ∷ after)
-  pub passed : T (every test before)
-  pub failed : test bad ≡ false
-  pub place : p ≡ length before + 1
-
-abbrev pub mostRows : ℕ
-mostRows = 128
+-- refused at the first member that fails a test, which may look at the members before it; its place counts from 1
+unfoldable pub needEach : {A : Type 0} → (ℕ → Refusal) → (List A → A → Bool) → List A → List A → Answer
+needEach why test before [] = Accepted
+needEach why test before (x ∷ xs) = cond (test before x) (needEach why test (before ++ (x ∷ [])) xs) (Refused (why (length before + 1)))
 
 -- 1: b not in 2..16
 abbrev pub bitLimit : ℕ → Answer
-bitLimit b = need no.Bits (leb 2 b ∷ leb b 16 ∷ [])
+bitLimit b = need no.Bits (bitTests b)
 
 -- 2: list empty or over 16
 abbrev pub listLength : List ℤ → Answer
-listLength ts = need no.List (leb 1 (length ts) ∷ leb (length ts) 16 ∷ [])
+listLength ts = need no.List (between 1 mostTargets (length ts))
 
 -- 3: an odd part is 2^b or more
 abbrev pub oddParts : ℕ → List ℤ → Answer
-oddParts b ts = needEach no.OddPart (λ t. ltb (oddOf t) (2 ^ b)) 1 ts
+oddParts b ts = needEach no.OddPart (λ _ t. ltb (oddOf t) (2 ^ b)) [] ts
 
 -- 4: lent output buffer too short
 abbrev pub buffer : ℕ → ℕ → Answer
@@ -97,29 +84,15 @@ buffer needed room = need no.Buffer (leb needed room ∷ [])
 
 -- 5: row count over 128, or rows exceed the slice
 abbrev pub rowCount : ℕ → List ℕ → Answer
-rowCount n w = need no.RowCount (leb n mostRows ∷ leb (rowLength * n) (length w) ∷ [])
+rowCount n w = need no.RowCount (rowTests n w)
 
--- 6: a row is not valid over the values before it, rows from k
-unfoldable pub rowsFrom : ℕ → List ℕ → ℕ → List Row → Answer
-rowsFrom L vals k [] = Accepted
-rowsFrom L vals k (x ∷ xs) = cond (fits? L vals x) (rowsFrom L (vals ++ (x .value ∷ [])) (suc k) xs) (Refused (no.Row k))
-
--- the same, as a statement: the first row that is not valid is row p
-pub record FirstBadRow (L : ℕ) (xs : List Row) (p : ℕ) : Type 0 where
-  pub before : List Row
-  pub bad : Row
-  pub after : List Row
-  pub split : xs ≡ before ++ (bad ∷ after)
-  pub passed : Sound L (1 ∷ []) before
-  pub failed : ¬ (Fits L (ready before) bad)
-  pub place : p ≡ length before + 1
-
+-- 6: a row is not valid
 abbrev pub validRows : ℕ → List Row → Answer
-validRows b xs = rowsFrom (limit b) (1 ∷ []) 1 xs
+validRows b xs = needEach no.Row (fits? (limit b)) [] xs
 
 -- 7: a wanted odd part is no row's value
 abbrev pub allServed : List Row → List ℤ → Answer
-allServed xs ts = needEach no.Unserved (served? xs) 1 ts
+allServed xs ts = needEach no.Unserved (λ _ t. served? (values xs) t) [] ts
 
 -- 8: generator needs a 129th row
 abbrev pub fewRows : List Row → Answer
@@ -127,14 +100,14 @@ fewRows xs = need no.TooManyRows (leb (length xs) mostRows ∷ [])
 
 -- 9: w not in 2..32
 abbrev pub inputWidth : ℕ → Answer
-inputWidth w = need no.Width (leb 2 w ∷ leb w 32 ∷ [])
+inputWidth w = need no.Width (widthTests w)
 
 -- 10: ready list empty or over 129, or a value not odd in 1..G-1
 abbrev pub readyLength : List ℕ → Answer
-readyLength vals = need (no.Ready 0) (leb 1 (length vals) ∷ leb (length vals) (mostRows + 1) ∷ [])
+readyLength vals = need (no.Ready 0) (between 1 mostReady (length vals))
 
 abbrev pub readyValues : ℕ → List ℕ → Answer
-readyValues b vals = needEach no.Ready (λ v. eqb (v % 2) 1 && ltb v (2 ^ limit b)) 1 vals
+readyValues b vals = needEach no.Ready (λ _ v. eqb (v % 2) 1 && ltb v (2 ^ limit b)) [] vals
 
 -- 11: distance target not odd in 1..2^b - 1
 abbrev pub target : ℕ → ℕ → Answer
@@ -202,13 +175,13 @@ unfoldable pub measured : ℕ → List ℤ → ℕ → List ℕ → ℕ → ℕ 
 measured b ts n w input room = firstOf (widthsOrder b ts n w input room)
 
 unfoldable pub widthsWritten : ℕ → List ℤ → ℕ → List ℕ → ℕ → ℕ → List ℕ
-widthsWritten b ts n w input room = given (measured b ts n w input room) (widths input (rows n w) ts)
+widthsWritten b ts n w input room = given (measured b ts n w input room) (widths input (values (rows n w)) ts)
 
 unfoldable pub ranked : ℕ → List ℤ → ℕ → List ℕ → ℕ → ℕ → Answer
 ranked b ts n w input room = firstOf (rankingOrder b ts n w input room)
 
 unfoldable pub rankingWritten : ℕ → List ℤ → ℕ → List ℕ → ℕ → ℕ → List ℕ
-rankingWritten b ts n w input room = given (ranked b ts n w input room) (ranking input (rows n w))
+rankingWritten b ts n w input room = given (ranked b ts n w input room) (ranking input (values (rows n w)))
 
 unfoldable pub drawn : ℕ → List ℤ → ℕ → Answer
 drawn b ts room = firstOf (generateOrder b ts room)

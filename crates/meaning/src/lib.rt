@@ -29,6 +29,16 @@ pub struct Row {
     pub value: u32,
 }
 
+// A choice of operands for a row: their indices, shifts and sign, and r.
+pub struct Choice {
+    pub u: u32,
+    pub v: u32,
+    pub l1: u32,
+    pub l2: u32,
+    pub s: u32,
+    pub r: u32,
+}
+
 // A prefix of a canonic form that ends at a nonzero digit: the one before it, the gap between their last digits,
 // s = 0 for digit 1 and 1 for digit -1, and its value.
 pub struct Prefix {

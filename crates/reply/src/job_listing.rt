@@ -4,12 +4,13 @@ use meaning::Refusal;
 ghost use mathlib.Core.Path.{_≡_};
 ghost use Prim.Native.Nat.{_≤_};
 ghost use lib.ListN.{length};
+ghost use Rattle.meaning.specs.Limits.{mostRows};
 ghost use Rattle.meaning.specs.declared.Answer.the-variants.{Accepted};
 ghost use Rattle.meaning.specs.Basics.{over, upFrom};
 ghost use Rattle.meaning.specs.Graph.{rows};
 ghost use Rattle.meaning.specs.Job.{natural as Job·natural};
 ghost use Rattle.meaning.specs.Listing.{rowOrder, replyTo, listing as Listing·listing, textRoom};
-ghost use Rattle.meaning.specs.Refusals.{mostRows, sized as Refusals·sized};
+ghost use Rattle.meaning.specs.Refusals.{sized as Refusals·sized};
 ghost use Rattle.writing.specs.Wrote.{Wrote};
 ghost use Rattle.reply.specs.Drawing.{Drawing};
 

@@ -4,9 +4,9 @@ use meaning::Row;
 ghost use mathlib.Core.Path.{_≡_};
 ghost use Prim.Native.Nat.{_+_, _*_, _≤_};
 ghost use lib.ListN.{length, getD};
+ghost use Rattle.meaning.specs.Limits.{mostRows};
 ghost use Rattle.meaning.specs.Basics.{overAt, indexFrom};
 ghost use Rattle.meaning.specs.Graph.{rowLength, words, rowAt, rows, ready};
-ghost use Rattle.meaning.specs.Refusals.{mostRows};
 
 // The row whose words begin at a place.
 pub fn row_at(words: &[u32], at: usize) -> Row

@@ -5,7 +5,7 @@ use mathlib.Core.List.{List, [], _∷_, _++_}
 use Prim.Native.Nat.{ℕ, _+_, _≤_, _<_}
 use lib.Dec.{ltb}
 use lib.ListN.{length, take, set, replicate}
-use Rattle.meaning.specs.Refusals.{mostRows}
+use Rattle.meaning.specs.Limits.{mostRows}
 use Rattle.search.specs.declared.ready.Ready.{Ready}
 
 -- the input and 128 rows

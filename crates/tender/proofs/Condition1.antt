@@ -20,14 +20,14 @@ use Rattle.meaning.specs.declared.Refusal.{Refusal}
 use Rattle.meaning.specs.declared.Refusal.the-variants as no
 use Rattle.meaning.specs.declared.Row.{Row}
 use Rattle.meaning.specs.Basics.{all, any, has, upFrom, over}
-use Rattle.meaning.specs.Limits.{limit}
+use Rattle.meaning.specs.Limits.{limit, mostRows}
 use Rattle.meaning.specs.Constants.{oddOf}
 use Rattle.meaning.specs.Distance.{distance, reach?, serves?, candidates}
 use Rattle.meaning.specs.Graph.{rowLength, rows, values, served?}
 use Rattle.meaning.specs.Generator.{generated}
 use Rattle.meaning.specs.Job.{Asked, Job, asks, malformed, jobOf, jobOrder, natural}
 use Rattle.meaning.specs.Listing.{rowOrder, answerOf, orRefused, replyTo, refusedLine, listing, jobText, printedTold, textWritten, textRoom}
-use Rattle.meaning.specs.Refusals.{need, needEach, mostRows, number, Done, given, drawnAs, farAs, firstOf, admitOrder, checkOrder, sizedOrder, productsOrder, widthsOrder, rankingOrder, generateOrder, distanceOrder, oddParts, buffer, rowCount, validRows, allServed, fewRows, inputWidth, readyValues, target, admitted, checked, multiplied, productsWritten, measured, widthsWritten, ranked, rankingWritten, drawn, drawnTold, rowsWritten, distanceTold}
+use Rattle.meaning.specs.Refusals.{need, needEach, number, Done, given, drawnAs, farAs, firstOf, admitOrder, checkOrder, sizedOrder, productsOrder, widthsOrder, rankingOrder, generateOrder, distanceOrder, oddParts, buffer, rowCount, validRows, allServed, fewRows, inputWidth, readyValues, target, admitted, checked, multiplied, productsWritten, measured, widthsWritten, ranked, rankingWritten, drawn, drawnTold, rowsWritten, distanceTold}
 use Rattle.laws.proofs.Tests.{All, all-of, of-all, true-of, false-of, T-of, in-every, every-in, both-of, of-both, either-of, of-left, of-right, eq→eqb}
 use Rattle.laws.proofs.Ranking.{ranking-permutes, ranking-ordered}
 use Rattle.laws.proofs.ReadBack.{read-back}

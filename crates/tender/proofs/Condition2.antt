@@ -10,13 +10,13 @@ use lib.ListN.{length, getD, List·getD-append, length-append}
 use Rattle.meaning.specs.declared.Answer.the-variants.{Accepted}
 use Rattle.meaning.specs.declared.Row.{Row}
 use Rattle.meaning.specs.Basics.{has, upFrom}
-use Rattle.meaning.specs.Limits.{limit}
+use Rattle.meaning.specs.Limits.{limit, mostRows}
 use Rattle.meaning.specs.Constants.{oddOf}
 use Rattle.meaning.specs.Operation.{whole, size, Valid}
 use Rattle.meaning.specs.Graph.{rowLength, rowAt, rows, values, Sound, served?}
 use Rattle.meaning.specs.Products.{targetProduct, targetProducts}
 use Rattle.meaning.specs.Widths.{ranking, InOrder}
-use Rattle.meaning.specs.Refusals.{mostRows, checkOrder, productsOrder, admitted, checked, sized, multiplied, productsWritten, given}
+use Rattle.meaning.specs.Refusals.{checkOrder, productsOrder, admitted, checked, sized, multiplied, productsWritten, given}
 use Rattle.laws.proofs.Tests.{any-in, in-any, either-of, of-left, of-right, in-every}
 use Rattle.laws.proofs.Operations.{size-is, exact-of, outcome-of}
 use Rattle.laws.proofs.Graphs.{length-rows, sound-odd}

@@ -16,7 +16,7 @@ use Rattle.meaning.specs.declared.Refusal.{Refusal}
 use Rattle.meaning.specs.declared.Refusal.the-variants as no
 use Rattle.meaning.specs.declared.Row.{Row}
 use Rattle.meaning.specs.Basics.{upFrom}
-use Rattle.meaning.specs.Limits.{limit}
+use Rattle.meaning.specs.Limits.{limit, mostRows}
 use Rattle.meaning.specs.Constants.{oddOf}
 use Rattle.meaning.specs.Graph.{rowLength, rows, values}
 use Rattle.meaning.specs.Generator.{generated}
@@ -24,7 +24,7 @@ use Rattle.meaning.specs.Widths.{rowWidth, InOrder}
 use Rattle.meaning.specs.Text.{span, numberAt, textOf}
 use Rattle.meaning.specs.Job.{Asked, asks, malformed, jobOf, natural}
 use Rattle.meaning.specs.Listing.{refusedLine, rowOrder, listing, jobText, printedTold, textWritten, textRoom}
-use Rattle.meaning.specs.Refusals.{mostRows, number, FirstBadRow, Done, admitted, checked, multiplied, productsWritten, measured, widthsWritten, ranked, rankingWritten, drawnTold, rowsWritten, distanceTold}
+use Rattle.meaning.specs.Refusals.{number, FirstBadRow, Done, admitted, checked, multiplied, productsWritten, measured, widthsWritten, ranked, rankingWritten, drawnTold, rowsWritten, distanceTold}
 
 -- ---- the table: in which situation a refusal comes, and with which place
 

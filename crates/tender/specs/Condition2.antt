@@ -5,6 +5,7 @@ use mathlib.Core.Logic.{_⊎_, _↔_}
 use Prim.Native.Nat.{ℕ, zero, suc, _+_, _-_, _*_, _%_, _^_, _≤_, _<_}
 use lib.IntN.{ℤ, pos, negsuc, natAbs, _*ℤ_}
 use lib.ListN.{length, getD}
+use Rattle.meaning.specs.Limits.{mostRows}
 use Rattle.meaning.specs.declared.Answer.the-variants.{Accepted}
 use Rattle.meaning.specs.declared.Row.{Row}
 use Rattle.meaning.specs.Basics.{upFrom}
@@ -13,7 +14,7 @@ use Rattle.meaning.specs.Operation.{whole}
 use Rattle.meaning.specs.Graph.{rowLength, rowAt, rows, values, ready}
 use Rattle.meaning.specs.Products.{products, targetProduct}
 use Rattle.meaning.specs.Widths.{Fewest, rowWidth, outputWidth, ranking, InOrder}
-use Rattle.meaning.specs.Refusals.{mostRows, admitted, checked, sized, multiplied, productsWritten}
+use Rattle.meaning.specs.Refusals.{admitted, checked, sized, multiplied, productsWritten}
 
 -- Voronenko and Püschel's A-operation (document 004, definition 2.1 with the constraints for odd values): c is |2^l1 u + (-1)^s 2^l2 v| / 2^r, with at
 -- most one left shift and an odd result. Document 01 narrows it by the bit limit b: shifts are at most b + 1, and c is below 2^(b+1)

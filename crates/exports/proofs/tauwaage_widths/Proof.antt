@@ -5,7 +5,7 @@ use native.Mathlib.Omega.{arith}
 use borrow.Author.Needs.{needs}
 use mir.Syntax.{w64}
 use mir.Val.{SFits}
-use Rattle.meaning.specs.Refusals.{mostRows}
+use Rattle.meaning.specs.Limits.{mostRows}
 use Rattle.exports.proofs.Handed.{coded-done, accepted-coded, refused-coded, measured-rows}
 use Rattle.exports.proofs.tauwaage_widths.Statement.{statement}
 use Rattle.exports.proofs.tauwaage_widths.Tie as tie

@@ -6,8 +6,8 @@ use native.Mathlib.Omega.{arith}
 use borrow.Author.Needs.{needs}
 use lib.ListN.{length}
 use lib.Seq.{length-take-le}
+use Rattle.meaning.specs.Limits.{mostRows}
 use Rattle.meaning.specs.Generator.{remaining, turn}
-use Rattle.meaning.specs.Refusals.{mostRows}
 use Rattle.laws.proofs.Remaining.{remaining-in}
 use Rattle.constants.specs.Held.{kept}
 use Rattle.search.specs.Listed.{listed}

@@ -6,12 +6,11 @@ use native.Mathlib.Omega.{arith}
 use borrow.Author.Needs.{needs}
 use lib.ListN.{length}
 use Rattle.meaning.specs.Constants.{wanted}
-use Rattle.meaning.specs.Limits.{limit}
+use Rattle.meaning.specs.Limits.{limit, mostRows}
 use Rattle.meaning.specs.Graph.{flat}
 use Rattle.meaning.specs.Basics.{over}
 use Rattle.meaning.specs.declared.Row.{Row}
 use Rattle.meaning.specs.Generator.{turns, generated}
-use Rattle.meaning.specs.Refusals.{mostRows}
 use Rattle.laws.proofs.Checked.{Admitted, admitted-of}
 use Rattle.laws.proofs.Wanted.{wanted-length}
 use Rattle.laws.proofs.Generated.{few-rows, drawn-accepts}

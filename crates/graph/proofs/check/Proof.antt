@@ -8,11 +8,12 @@ use borrow.Author.Tests.{not-true, not-false}
 use lib.Dec.{leb, leb→le}
 use lib.IntN.{ℤ}
 use lib.ListN.{length}
+use Rattle.meaning.specs.Limits.{mostRows}
 use Rattle.meaning.specs.declared.Answer.{Answer}
 use Rattle.meaning.specs.declared.Refusal.the-variants as no
 use Rattle.meaning.specs.Basics.{all}
 use Rattle.meaning.specs.Graph.{rowLength, rows}
-use Rattle.meaning.specs.Refusals.{mostRows, admitOrder, rowCount, validRows, allServed, admitted, checked, firstOf}
+use Rattle.meaning.specs.Refusals.{admitOrder, rowCount, validRows, allServed, admitted, checked, firstOf}
 use Rattle.laws.proofs.Tests.{T-of, all-of}
 use Rattle.laws.proofs.Stages.{stops, passes, last, stops-at, passes-on}
 use Rattle.laws.proofs.Checked.{Admitted, admitted-of}

@@ -6,10 +6,10 @@ use Prim.Native.Nat.{ℕ, _≤_}
 use native.Mathlib.Omega.{arith}
 use borrow.Author.Needs.{needs}
 use lib.ListN.{length}
+use Rattle.meaning.specs.Limits.{mostRows}
 use Rattle.meaning.specs.Basics.{upFrom, over}
 use Rattle.meaning.specs.Graph.{rows}
 use Rattle.meaning.specs.Listing.{rowOrder}
-use Rattle.meaning.specs.Refusals.{mostRows}
 use Rattle.laws.proofs.Checked.{sized-of}
 use Rattle.laws.proofs.Graphs.{length-rows}
 use Rattle.reply.proofs.JobListingLaws.{ranked-written}
