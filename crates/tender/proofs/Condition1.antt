@@ -19,11 +19,11 @@ use Rattle.meaning.specs.declared.Printed.the-variants as printed
 use Rattle.meaning.specs.declared.Refusal.{Refusal}
 use Rattle.meaning.specs.declared.Refusal.the-variants as no
 use Rattle.meaning.specs.declared.Row.{Row}
-use Rattle.meaning.specs.Basics.{all, any, has, upFrom, over}
-use Rattle.meaning.specs.Limits.{limit, mostRows}
+use Rattle.meaning.specs.Basics.{all, any, has, First, upFrom, over}
+use Rattle.meaning.specs.Limits.{limit, mostRows, mostReady}
 use Rattle.meaning.specs.Constants.{oddOf}
 use Rattle.meaning.specs.Distance.{distance, reach?, serves?, candidates}
-use Rattle.meaning.specs.Graph.{rowLength, rows, values, served?}
+use Rattle.meaning.specs.Graph.{rowLength, rowTests, rows, values, Fits, fits?, served?}
 use Rattle.meaning.specs.Generator.{generated}
 use Rattle.meaning.specs.Job.{Asked, Job, asks, malformed, jobOf, jobOrder, natural}
 use Rattle.meaning.specs.Listing.{rowOrder, answerOf, orRefused, replyTo, refusedLine, listing, jobText, printedTold, textWritten, textRoom}
@@ -32,8 +32,10 @@ use Rattle.laws.proofs.Tests.{All, all-of, of-all, true-of, false-of, T-of, in-
 use Rattle.laws.proofs.Ranking.{ranking-permutes, ranking-ordered}
 use Rattle.laws.proofs.ReadBack.{read-back}
 use Rattle.laws.proofs.Reach.{in-has, has-in}
-use Rattle.laws.proofs.Stages.{never-both, refused-same, need-refuses, each-refuses, refuses-each, first-bad-row, bad-row-first, one-answer, one-done, over-none}
-use Rattle.tender.specs.Condition1.{Situation, First, Signed32, oddPartOut, bufferShort, rowCountOut, rowInvalid, oddPartMissing, rowsOver, widthOut, readyValueOut, targetOut, RefusedBy, admitTable, checkTable, sizedTable, generateTable, distanceTable, jobTable, Condition1}
+use Rattle.laws.proofs.Stages.{never-both, refused-same, need-refuses, one-answer, one-done, over-none}
+use Rattle.laws.proofs.Members.{each-refuses, refuses-each}
+use Rattle.laws.proofs.Graphs.{length-values, fits-of-test, test-of-fits}
+use Rattle.tender.specs.Condition1.{Situation, Signed32, oddPartOut, bufferShort, rowCountOut, rowInvalid, oddPartMissing, rowsOver, widthOut, readyValueOut, targetOut, RefusedBy, admitTable, checkTable, sizedTable, generateTable, distanceTable, jobTable, Condition1}
 
 -- ---- stages and their situations
 
@@ -91,54 +93,20 @@ above y n high why =
       λ h. p .1 (h .0, λ z. omega (arith, h .1)),
     )
 
--- ---- a condition on each member
+-- ---- a condition on each member, seen after those before it
 
-module _ {A : Type 0} (y : ℕ → Refusal) (test : A → Bool) (P : A → Type 0) (no-p : (x : A) → T (test x) → ¬ (P x)) (is-p : (x : A) → test x ≡ false → P x) where
-  passes-by : (b : Bool) (x : A) → test x ≡ b → ¬ (P x) → T b
-  passes-by true x e n = tt
-  passes-by false x e n = absurd (n (is-p x e))
-
-  eaches : (xs : List A) → Exactly (needEach y test 1 xs) (λ why. (p : ℕ) × (why ≡ y p) × First P xs p)
-  eaches xs why = (to, λ h. from (h .0) (h .1) (h .2))
-    where
-      to : needEach y test 1 xs ≡ Refused why → (p : ℕ) × (why ≡ y p) × First P xs p
-      to e =
-          let (p, f, q) = each-refuses y test 1 xs why e in (
-            1 + p,
-            q,
-            record {
-              before = f .before;
-              there = f .bad;
-              behind = f .after;
-              split = f .split;
-              none-before = λ x i. no-p x (every-in test (f .passed) i);
-              holds = is-p (f .bad) (f .failed);
-              place = let g = f .place in omega arith;
-            },
-          )
-
-      from : (p : ℕ) → why ≡ y p → First P xs p → needEach y test 1 xs ≡ Refused why
-      from p e f =
-          let q : p ≡ suc (length (f .before)) = f .place ∙ omega arith in
-          refuses-each y test 1 xs (length (f .before))
-          (record {
-            before = f .before;
-            bad = f .there;
-            after = f .behind;
-            split = f .split;
-            passed = in-every test (f .before) (λ x i. T-of (true-of (test x) (passes-by (test x) x refl (f .none-before x i))));
-            failed = false-of (test (f .there)) (λ t. no-p (f .there) t (f .holds));
-            place = omega arith;
-          })
-          ∙ ap (λ (k : ℕ). Refused (y k)) (omega arith)
-          ∙ ap Refused (sym e)
+eaches : {A : Type 0} (y : ℕ → Refusal) (test : List A → A → Bool) (P : List A → A → Type 0) → ((b : List A) (x : A) → T (test b x) → ¬ (P b x))
+    → ((b : List A) (x : A) → test b x ≡ false → P b x) → (xs : List A) → Exactly (needEach y test [] xs) (λ why. (p : ℕ) × (why ≡ y p) × First P xs p)
+eaches y test P no-p is-p xs why = (
+  λ e. let (p, f, q) = each-refuses y test P no-p is-p xs why e in (p, q, f),
+  λ h. refuses-each y test P no-p is-p xs (h .0) (h .2) ∙ ap Refused (sym (h .1)),
+)
 
 -- ---- the stages of the calls
 
 odd-parts : (b : ℕ) (ts : List ℤ) → Exactly (oddParts b ts) (oddPartOut b ts)
 odd-parts b ts =
-    eaches no.OddPart (λ t. ltb (oddOf t) (2 ^ b)) (λ t. 2 ^ b ≤ oddOf t) (λ t h k. omega (arith, ltb→lt (oddOf t) (2 ^ b) h))
-    (λ t e. above-of (oddOf t) (2 ^ b) e) ts
+    eaches no.OddPart _ (λ _ t. 2 ^ b ≤ oddOf t) (λ _ t h k. omega (arith, ltb→lt (oddOf t) (2 ^ b) h)) (λ _ t e. above-of (oddOf t) (2 ^ b) e) ts
   where
     above-of : (m n : ℕ) → ltb m n ≡ false → n ≤ m
     above-of m n e = go (λ h. subst T e (lt→ltb m n h))
@@ -147,22 +115,21 @@ odd-parts b ts =
         go f = omega arith
 
 valid-rows : (b : ℕ) (xs : List Row) → Exactly (validRows b xs) (rowInvalid b xs)
-valid-rows b xs why = (
-  λ e. let (p, f, q) = first-bad-row (limit b) xs why e in (p, q, f),
-  λ h. bad-row-first (limit b) xs (h .0) (h .2) ∙ ap Refused (sym (h .1)),
-)
+valid-rows b xs =
+    eaches no.Row (fits? (limit b)) (λ before x. ¬ (Fits (limit b) before x)) (λ before x t n. n (fits-of-test (limit b) before x t))
+    (λ before x e f. subst T e (test-of-fits (limit b) before x f)) xs
 
 -- a target is served exactly if its odd part is at most 1 or some row's value
 module _ (xs : List Row) where
   abbrev Missing : ℤ → Type 0
   Missing t = (1 < oddOf t) × (¬ List·Memᴰ (oddOf t) (values xs))
 
-  served-not : (t : ℤ) → T (served? xs t) → ¬ (Missing t)
+  served-not : (t : ℤ) → T (served? (values xs) t) → ¬ (Missing t)
   unfolding served?
   served-not t h m =
       ⊎-elim (λ a. let z = leb→le (oddOf t) 1 a in omega (arith, m .0)) (λ a. m .1 (has-in (values xs) (oddOf t) a)) (either-of (leb (oddOf t) 1) (has (values xs) (oddOf t)) h)
 
-  missing-is : (t : ℤ) → served? xs t ≡ false → Missing t
+  missing-is : (t : ℤ) → served? (values xs) t ≡ false → Missing t
   unfolding served?
   missing-is t e = (
     over-one (λ h. subst T e (of-left (leb (oddOf t) 1) (has (values xs) (oddOf t)) (le→leb (oddOf t) 1 h))),
@@ -174,16 +141,16 @@ module _ (xs : List Row) where
 
 ready-values : (b : ℕ) (vals : List ℕ) → Exactly (readyValues b vals) (readyValueOut b vals)
 ready-values b vals =
-    eaches no.Ready _ (λ v. ¬ ((v % 2 ≡ 1) × (v < 2 ^ limit b)))
-    (λ v h n. let q = both-of (eqb (v % 2) 1) (ltb v (2 ^ limit b)) h in n (eqb→eq _ _ (q .0), ltb→lt _ _ (q .1)))
-    (λ v e p. subst T e (of-both (eqb (v % 2) 1) (ltb v (2 ^ limit b)) (eq→eqb _ _ (p .0)) (lt→ltb _ _ (p .1)))) vals
+    eaches no.Ready _ (λ _ v. ¬ ((v % 2 ≡ 1) × (v < 2 ^ limit b)))
+    (λ _ v h n. let q = both-of (eqb (v % 2) 1) (ltb v (2 ^ limit b)) h in n (eqb→eq _ _ (q .0), ltb→lt _ _ (q .1)))
+    (λ _ v e p. subst T e (of-both (eqb (v % 2) 1) (ltb v (2 ^ limit b)) (eq→eqb _ _ (p .0)) (lt→ltb _ _ (p .1)))) vals
 
 admit-told : (b : ℕ) (ts : List ℤ) → Told (admitOrder b ts) (admitTable b ts)
 admit-told b ts = (between no.Bits 2 b 16, (between no.List 1 (length ts) 16, (odd-parts b ts, tt)))
 
 row-count : (n : ℕ) (w : List ℕ) → Exactly (rowCount n w) (rowCountOut n w)
 row-count n w =
-    needs no.RowCount (leb n mostRows ∷ leb (rowLength * n) (length w) ∷ []) ((n ≤ mostRows) × (rowLength * n ≤ length w))
+    needs no.RowCount (rowTests n w) ((n ≤ mostRows) × (rowLength * n ≤ length w))
     (λ t. (leb→le _ _ (t .0), leb→le _ _ (t .1 .0))) (λ p. (le→leb _ _ (p .0), (le→leb _ _ (p .1), tt)))
 
 target-told : (b c : ℕ) → Exactly (target b c) (targetOut b c)
@@ -196,7 +163,7 @@ check-told b ts n w =
     let xs = rows n w in
     told-append (admitOrder b ts) (rowCount n w ∷ validRows b xs ∷ allServed xs ts ∷ []) (admitTable b ts)
     (rowCountOut n w ∷ rowInvalid b xs ∷ oddPartMissing xs ts ∷ []) (admit-told b ts)
-    (row-count n w, (valid-rows b xs, (eaches no.Unserved (served? xs) (Missing xs) (served-not xs) (missing-is xs) ts, tt)))
+    (row-count n w, (valid-rows b xs, (eaches no.Unserved _ (λ _ t. Missing xs t) (λ _ t. served-not xs t) (λ _ t. missing-is xs t) ts, tt)))
 
 sized-told : (b : ℕ) (ts : List ℤ) (n : ℕ) (w : List ℕ) (input : ℕ) → Told (sizedOrder b ts n w input) (sizedTable b ts n w input)
 sized-told b ts n w input = told-last (checkOrder b ts n w) (checkTable b ts n w) (check-told b ts n w) (inputWidth input) (widthOut input) (between no.Width 2 input 32)
@@ -210,7 +177,7 @@ generate-told b ts room =
 
 distance-stages : (b : ℕ) (vals : List ℕ) (c : ℕ) → Told (distanceOrder b vals c) (distanceTable b vals c)
 distance-stages b vals c =
-    (between no.Bits 2 b 16, (between (no.Ready 0) 1 (length vals) (mostRows + 1), (ready-values b vals, (target-told b c, tt))))
+    (between no.Bits 2 b 16, (between (no.Ready 0) 1 (length vals) mostReady, (ready-values b vals, (target-told b c, tt))))
 
 job-told : (j : Asked) → Told (jobOrder j) (jobTable j)
 job-told j =
@@ -380,7 +347,7 @@ fits (pos n) h = record { sfits = h }
 fits (negsuc n) h = record { sfits = h }
 
 once : (byWidth : Bool) (input : ℕ) (xs : List Row) → List·Permᴰ (rowOrder byWidth input xs) (upFrom 1 (length xs))
-once true input xs = ranking-permutes input xs
+once true input xs = subst (λ n. List·Permᴰ (rowOrder true input xs) (upFrom 1 n)) (length-values xs) (ranking-permutes input (values xs))
 once false input xs = Permᴰ·refl (upFrom 1 (length xs))
 
 pub condition1 : Condition1
@@ -399,7 +366,7 @@ condition1 =
       print = printed-told;
       numbers-back = λ z front rest h e. read-back z front rest (fits z h) e;
       rows-once = once;
-      rows-by-width = λ input xs. ranking-ordered input xs;
+      rows-by-width = λ input xs. ranking-ordered input (values xs);
       rows-by-number = λ input xs. refl;
       multiply-quiet = multiply-quiet;
       measure-quiet = measure-quiet;

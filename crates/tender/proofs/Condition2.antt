@@ -13,13 +13,13 @@ use Rattle.meaning.specs.Basics.{has, upFrom}
 use Rattle.meaning.specs.Limits.{limit, mostRows}
 use Rattle.meaning.specs.Constants.{oddOf}
 use Rattle.meaning.specs.Operation.{whole, size, Valid}
-use Rattle.meaning.specs.Graph.{rowLength, rowAt, rows, values, Sound, served?}
-use Rattle.meaning.specs.Products.{targetProduct, targetProducts}
+use Rattle.meaning.specs.Graph.{rowLength, rowAt, rows, values, ready, valueAt, Sound, served?}
+use Rattle.meaning.specs.Products.{products, targetProduct, targetProducts}
 use Rattle.meaning.specs.Widths.{ranking, InOrder}
 use Rattle.meaning.specs.Refusals.{checkOrder, productsOrder, admitted, checked, sized, multiplied, productsWritten, given}
 use Rattle.laws.proofs.Tests.{any-in, in-any, either-of, of-left, of-right, in-every}
 use Rattle.laws.proofs.Operations.{size-is, exact-of, outcome-of}
-use Rattle.laws.proofs.Graphs.{length-rows, sound-odd}
+use Rattle.laws.proofs.Graphs.{length-rows, length-values, ready-append, sound-odd}
 use Rattle.laws.proofs.Stages.{first-accepts, all-accept}
 use Rattle.laws.proofs.Checked.{admitted-of, good-of, of-good, sized-of}
 use Rattle.laws.proofs.Products.{products-are, target-product, target-products}
@@ -61,83 +61,82 @@ valid-of b u v l1 l2 s r c o =
 
 -- ---- the rows, by recursion and by number
 
--- row i of some rows over the values vals and those of the rows before it
-abbrev Fit : ℕ → List ℕ → List Row → ℕ → Type 0
-Fit L vals xs i = let x = getD xs i (rowAt [] 0) in
-    (x .u < length vals + i) × (x .v < length vals + i)
-    × Valid L (getD (vals ++ values xs) (x .u) 0) (getD (vals ++ values xs) (x .v) 0) (x .l1) (x .l2) (x .s) (x .r) (x .value)
+-- a row is an operation on the values of some rows
+abbrev OnRows : ℕ → Row → List Row → Type 0
+OnRows L x ys = Valid L (valueAt ys (x .u)) (valueAt ys (x .v)) (x .l1) (x .l2) (x .s) (x .r) (x .value)
+
+-- row i of some rows after those before
+abbrev Fit : ℕ → List Row → List Row → ℕ → Type 0
+Fit L before xs i = let x = getD xs i (rowAt [] 0) in
+    (x .u < length (ready before) + i) × (x .v < length (ready before) + i) × OnRows L x (before ++ xs)
 
 -- a value that was there before more were added
-kept : (vals more : List ℕ) (i : ℕ) → i < length vals → getD (vals ++ more) i 0 ≡ getD vals i 0
-kept vals more i h = List·getD-append vals more 0 i h
+kept : (before more : List Row) (i : ℕ) → i < length (ready before) → valueAt (before ++ more) i ≡ valueAt before i
+kept before more i h = ap (λ l. getD l i 0) (ready-append before more) ∙ List·getD-append (ready before) (values more) 0 i h
 
-one-more : (vals : List ℕ) (v : ℕ) → length (vals ++ (v ∷ [])) ≡ suc (length vals)
-one-more vals v = length-append vals (v ∷ []) ∙ omega arith
+one-more : (before : List Row) (x : Row) → length (ready (before ++ (x ∷ []))) ≡ suc (length (ready before))
+one-more before x = ap length (ready-append before (x ∷ [])) ∙ length-append (ready before) (x .value ∷ []) ∙ omega arith
 
-abbrev OnValues : ℕ → Row → List ℕ → Type 0
-OnValues L x vals = Valid L (getD vals (x .u) 0) (getD vals (x .v) 0) (x .l1) (x .l2) (x .s) (x .r) (x .value)
-
-sound-fit : (L : ℕ) (vals : List ℕ) (xs : List Row) → Sound L vals xs → (i : ℕ) → i < length xs → Fit L vals xs i
+sound-fit : (L : ℕ) (before xs : List Row) → Sound L before xs → (i : ℕ) → i < length xs → Fit L before xs i
 unfolding Sound
-sound-fit L vals [] s i h = absurd (omega arith)
-sound-fit L vals (x ∷ xs) s zero h =
+sound-fit L before [] s i h = absurd (omega arith)
+sound-fit L before (x ∷ xs) s zero h =
     let f = s .0 in (
       omega (arith, f .first),
       omega (arith, f .second),
       subst₂ (λ p q. Valid L p q (x .l1) (x .l2) (x .s) (x .r) (x .value))
-          (sym (kept vals (x .value ∷ values xs) (x .u) (f .first))) (sym (kept vals (x .value ∷ values xs) (x .v) (f .second))) (f .operation),
+          (sym (kept before (x ∷ xs) (x .u) (f .first))) (sym (kept before (x ∷ xs) (x .v) (f .second))) (f .operation),
     )
-sound-fit L vals (x ∷ xs) s (suc i) h =
-    let (a, c, o) = sound-fit L (vals ++ (x .value ∷ [])) xs (s .1) i (omega arith) in (
-      omega (arith, one-more vals (x .value)),
-      omega (arith, one-more vals (x .value)),
-      subst (OnValues L (getD xs i (rowAt [] 0))) (append-assoc vals (x .value ∷ []) (values xs)) o,
+sound-fit L before (x ∷ xs) s (suc i) h =
+    let (a, c, o) = sound-fit L (before ++ (x ∷ [])) xs (s .1) i (omega arith) in (
+      omega (arith, one-more before x),
+      omega (arith, one-more before x),
+      subst (OnRows L (getD xs i (rowAt [] 0))) (append-assoc before (x ∷ []) xs) o,
     )
 
-fit-sound : (L : ℕ) (vals : List ℕ) (xs : List Row) → ((i : ℕ) → i < length xs → Fit L vals xs i) → Sound L vals xs
+fit-sound : (L : ℕ) (before xs : List Row) → ((i : ℕ) → i < length xs → Fit L before xs i) → Sound L before xs
 unfolding Sound
-fit-sound L vals [] f = tt
-fit-sound L vals (x ∷ xs) f =
+fit-sound L before [] f = tt
+fit-sound L before (x ∷ xs) f =
     let (a, c, o) = f 0 (omega arith) in
-    let p : x .u < length vals = omega arith in
-    let q : x .v < length vals = omega arith in (
+    let p : x .u < length (ready before) = omega arith in
+    let q : x .v < length (ready before) = omega arith in (
       record {
         first = p;
         second = q;
         operation =
-            subst₂ (λ p q. Valid L p q (x .l1) (x .l2) (x .s) (x .r) (x .value))
-            (kept vals (x .value ∷ values xs) (x .u) p) (kept vals (x .value ∷ values xs) (x .v) q) o;
+            subst₂ (λ p q. Valid L p q (x .l1) (x .l2) (x .s) (x .r) (x .value)) (kept before (x ∷ xs) (x .u) p) (kept before (x ∷ xs) (x .v) q) o;
       },
-      fit-sound L (vals ++ (x .value ∷ [])) xs (λ i h.
+      fit-sound L (before ++ (x ∷ [])) xs (λ i h.
           let (d, e, r) = f (suc i) (omega arith) in (
-            omega (arith, one-more vals (x .value)),
-            omega (arith, one-more vals (x .value)),
-            subst⁻¹ (OnValues L (getD xs i (rowAt [] 0))) (append-assoc vals (x .value ∷ []) (values xs)) r,
+            omega (arith, one-more before x),
+            omega (arith, one-more before x),
+            subst⁻¹ (OnRows L (getD xs i (rowAt [] 0))) (append-assoc before (x ∷ []) xs) r,
           )),
     )
 
-rows-of : (b : ℕ) (xs : List Row) → Sound (limit b) (1 ∷ []) xs → EveryRowValid b xs
+rows-of : (b : ℕ) (xs : List Row) → Sound (limit b) [] xs → EveryRowValid b xs
 rows-of b xs s zero p h = absurd (omega arith)
 rows-of b xs s (suc i) p h =
-    let (a, c, o) = sound-fit (limit b) (1 ∷ []) xs s i (omega arith) in
+    let (a, c, o) = sound-fit (limit b) [] xs s i (omega arith) in
     record { first = omega arith; second = omega arith; operation = operation-of b _ _ _ _ _ _ _ o }
 
-of-rows : (b : ℕ) (xs : List Row) → EveryRowValid b xs → Sound (limit b) (1 ∷ []) xs
+of-rows : (b : ℕ) (xs : List Row) → EveryRowValid b xs → Sound (limit b) [] xs
 of-rows b xs v =
-    fit-sound (limit b) (1 ∷ []) xs (λ i h.
+    fit-sound (limit b) [] xs (λ i h.
     let r = v (suc i) (omega arith) (omega arith) in
     (omega (arith, r .first), omega (arith, r .second), valid-of b _ _ _ _ _ _ _ (r .operation)))
 
 -- ---- the constants
 
-made-of : (xs : List Row) (t : ℤ) → T (served? xs t) → (oddOf t ≤ 1) ⊎ List·Memᴰ (oddOf t) (values xs)
+made-of : (xs : List Row) (t : ℤ) → T (served? (values xs) t) → (oddOf t ≤ 1) ⊎ List·Memᴰ (oddOf t) (values xs)
 unfolding served?
 made-of xs t s =
     ⊎-elim (λ a. inl (leb→le (oddOf t) 1 a))
     (λ a. let (x, i, q) = any-in (λ x. eqb x (oddOf t)) (values xs) a in inr (subst (λ z. List·Memᴰ z (values xs)) (eqb→eq x (oddOf t) q) i))
     (either-of (leb (oddOf t) 1) (has (values xs) (oddOf t)) s)
 
-of-made : (xs : List Row) (t : ℤ) → (oddOf t ≤ 1) ⊎ List·Memᴰ (oddOf t) (values xs) → T (served? xs t)
+of-made : (xs : List Row) (t : ℤ) → (oddOf t ≤ 1) ⊎ List·Memᴰ (oddOf t) (values xs) → T (served? (values xs) t)
 unfolding served?
 of-made xs t (inl h) = of-left (leb (oddOf t) 1) (has (values xs) (oddOf t)) (le→leb (oddOf t) 1 h)
 of-made xs t (inr i) = of-right (leb (oddOf t) 1) (has (values xs) (oddOf t)) (in-any (λ x. eqb x (oddOf t)) i (eqb-refl (oddOf t)))
@@ -163,7 +162,7 @@ exactly b ts n w a m l = (there, back)
 
 -- ---- products
 
-gives : (b : ℕ) (ts : List ℤ) (n : ℕ) (w : List ℕ) (x t : ℤ) → checked b ts n w ≡ Accepted → List·Memᴰ t ts → targetProduct (rows n w) x t ≡ t *ℤ x
+gives : (b : ℕ) (ts : List ℤ) (n : ℕ) (w : List ℕ) (x t : ℤ) → checked b ts n w ≡ Accepted → List·Memᴰ t ts → targetProduct (ready (rows n w)) (products (rows n w) x) t ≡ t *ℤ x
 gives b ts n w x t e i = let g = good-of b ts n w e in target-product (limit b) (rows n w) x t (g .sound) (g .serves t i)
 
 -- acceptance with a buffer is acceptance by the check
@@ -177,7 +176,7 @@ writes : (b : ℕ) (ts : List ℤ) (n : ℕ) (w : List ℕ) (x : ℤ) (room : �
 unfolding productsWritten
 writes b ts n w x room e =
     let g = good-of b ts n w (multiplied-checked b ts n w room e) in
-    ap (λ a. given a (targetProducts (rows n w) x ts)) e ∙ target-products (limit b) (rows n w) x ts (g .sound) (in-every (served? (rows n w)) ts (g .serves))
+    ap (λ a. given a (targetProducts (rows n w) x ts)) e ∙ target-products (limit b) (rows n w) x ts (g .sound) (in-every (served? (values (rows n w))) ts (g .serves))
 
 -- ---- widths
 
@@ -187,7 +186,7 @@ positive v o = omega arith
 row-value : (b : ℕ) (ts : List ℤ) (n : ℕ) (w : List ℕ) (input : ℕ) (y : Row) → sized b ts n w input ≡ Accepted → List·Memᴰ y (rows n w) → (2 ≤ input) × (1 ≤ y .value)
 row-value b ts n w input y e i =
     let g = sized-of b ts n w input e in
-    (g .width .0, positive (y .value) (sound-odd (limit b) (1 ∷ []) (rows n w) (g .good .sound) y i .0))
+    (g .width .0, positive (y .value) (sound-odd (limit b) [] (rows n w) (g .good .sound) y i .0))
 
 -- ---- the ranking
 
@@ -205,7 +204,8 @@ condition2 =
       row-widths = λ b ts n w input y e i. let (h, p) = row-value b ts n w input y e i in row-fewest input (y .value) h p;
       widths-before-shift = λ b ts n w input y e i. let (h, p) = row-value b ts n w input y e i in shifted-fewest input (y .value) (y .r) h p;
       output-widths = λ b ts n w input t e h. output-fewest input t (sized-of b ts n w input e .width .0) h;
-      ranking-permutes = λ n w input. subst (λ k. List·Permᴰ (ranking input (rows n w)) (upFrom 1 k)) (length-rows n w) (ranking-permutes input (rows n w));
-      ranking-ordered = λ n w input. ranking-ordered input (rows n w);
-      widest-first = λ n w input first rest e. head-widest (widthOf input (rows n w)) first rest (subst (InOrder (widthOf input (rows n w))) e (ranking-ordered input (rows n w)));
+      ranking-permutes = λ n w input.
+          subst (λ k. List·Permᴰ (ranking input (values (rows n w))) (upFrom 1 k)) (length-values (rows n w) ∙ length-rows n w) (ranking-permutes input (values (rows n w)));
+      ranking-ordered = λ n w input. ranking-ordered input (values (rows n w));
+      widest-first = λ n w input first rest e. head-widest (widthOf input (rows n w)) first rest (subst (InOrder (widthOf input (rows n w))) e (ranking-ordered input (values (rows n w))));
     }

@@ -9,8 +9,8 @@ use Rattle.meaning.specs.Operation.{whole, Valid, outcome?, valid?, operated}
 use Rattle.meaning.specs.Graph.{rows, fits?, outputIndex}
 use Rattle.meaning.specs.Distance.{gives?, shiftPairs, oneOp?, reach?, serves?, candidates, distance}
 use Rattle.meaning.specs.Digits.{digitsIn, canonic, prefixesFrom, prefixes}
-use Rattle.meaning.specs.Generator.{chosen, rowFor, remaining, ruleA, trials, serve, ruleB, ruleC, orElse, turn, turns, generated}
-use Rattle.meaning.specs.Products.{rowProduct, productsFrom, products, targetProduct}
+use Rattle.meaning.specs.Generator.{chosen, choiceFor, rowFor, remaining, ruleA, trials, serve, ruleB, ruleC, orElse, added, turn, turns, generated}
+use Rattle.meaning.specs.Products.{rowProduct, productsFrom, products, targetProduct, targetProducts}
 use Rattle.meaning.specs.Widths.{leastFrom, extraBits}
 use Rattle.meaning.specs.Refusals.{needEach, admitted, distanceTold}
 use Rattle.tender.specs.Examples.{Examples}
@@ -28,7 +28,7 @@ never : (L u r c : ℕ) → ¬ (Valid L u u 0 0 1 r c)
 never L u r c k = let h = k .outcome .nonzero in omega arith
 
 pub examples : Examples
-unfolding indexFrom sumOf firstSome andThen zerosIn zeros apart insert wanted outcome? valid? operated rows fits? outputIndex gives? shiftPairs oneOp? reach? serves? candidates distance digitsIn canonic prefixesFrom prefixes chosen rowFor remaining ruleA trials serve ruleB ruleC orElse turn turns generated rowProduct productsFrom products targetProduct leastFrom extraBits needEach admitted distanceTold
+unfolding indexFrom sumOf firstSome andThen zerosIn zeros apart insert wanted outcome? valid? operated rows fits? outputIndex gives? shiftPairs oneOp? reach? serves? candidates distance digitsIn canonic prefixesFrom prefixes chosen choiceFor rowFor remaining ruleA trials serve ruleB ruleC orElse added turn turns generated rowProduct productsFrom products targetProduct targetProducts leastFrom extraBits needEach admitted distanceTold
 examples =
     record {
       p1 = refl;

@@ -10,11 +10,11 @@ use Rattle.meaning.specs.Constants.{apart}
 use Rattle.meaning.specs.Operation.{outcome?, valid?}
 use Rattle.meaning.specs.Graph.{rows, flat, fits?, served?}
 use Rattle.meaning.specs.Widths.{leastFrom, extraBits, place, rankedFrom, ranking}
-use Rattle.meaning.specs.Refusals.{needEach, rowsFrom, Done, ranked, rankingWritten}
+use Rattle.meaning.specs.Refusals.{needEach, Done, ranked, rankingWritten}
 use Rattle.tender.specs.SortKey.{two, targets, SortKey}
 
 written : rankingWritten 8 targets 2 (flat two) 29 2 ≡ 2 ∷ 1 ∷ []
-unfolding zerosIn zeros apart outcome? valid? rows flat fits? served? leastFrom extraBits place rankedFrom ranking needEach rowsFrom ranked rankingWritten
+unfolding zerosIn zeros apart outcome? valid? rows flat fits? served? leastFrom extraBits place rankedFrom ranking needEach ranked rankingWritten
 written = refl
 
 left : (r : Answer) (after : List ℕ) → Done (ranked 8 targets 2 (flat two) 29 2) (rankingWritten 8 targets 2 (flat two) 29 2) r (0 ∷ 0 ∷ []) after

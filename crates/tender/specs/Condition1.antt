@@ -15,31 +15,21 @@ use Rattle.meaning.specs.declared.Read.the-variants.{Number}
 use Rattle.meaning.specs.declared.Refusal.{Refusal}
 use Rattle.meaning.specs.declared.Refusal.the-variants as no
 use Rattle.meaning.specs.declared.Row.{Row}
-use Rattle.meaning.specs.Basics.{upFrom}
-use Rattle.meaning.specs.Limits.{limit, mostRows}
+use Rattle.meaning.specs.Basics.{First, upFrom}
+use Rattle.meaning.specs.Limits.{limit, mostRows, mostReady}
 use Rattle.meaning.specs.Constants.{oddOf}
-use Rattle.meaning.specs.Graph.{rowLength, rows, values}
+use Rattle.meaning.specs.Graph.{rowLength, rows, values, Fits}
 use Rattle.meaning.specs.Generator.{generated}
 use Rattle.meaning.specs.Widths.{rowWidth, InOrder}
 use Rattle.meaning.specs.Text.{span, numberAt, textOf}
 use Rattle.meaning.specs.Job.{Asked, asks, malformed, jobOf, natural}
 use Rattle.meaning.specs.Listing.{refusedLine, rowOrder, listing, jobText, printedTold, textWritten, textRoom}
-use Rattle.meaning.specs.Refusals.{number, FirstBadRow, Done, admitted, checked, multiplied, productsWritten, measured, widthsWritten, ranked, rankingWritten, drawnTold, rowsWritten, distanceTold}
+use Rattle.meaning.specs.Refusals.{number, Done, admitted, checked, multiplied, productsWritten, measured, widthsWritten, ranked, rankingWritten, drawnTold, rowsWritten, distanceTold}
 
--- ---- the table: in which situation a refusal comes, and with which place
+-- ---- the table: in which situation a refusal comes, and with which place (`First`: there, and at no place before)
 
 abbrev pub Situation : Type 1
 Situation = Refusal → Type 0
-
--- P holds at place p of a list, counted from 1, and at no place before
-pub record First {A : Type 0} (P : A → Type 0) (xs : List A) (p : ℕ) : Type 0 where
-  pub before : List A
-  pub there : A
-  pub behind : List A
-  pub split : xs ≡ before ++ (there ∷ behind)
-  pub none-before : (x : A) → List·Memᴰ x before → ¬ (P x)
-  pub holds : P there
-  pub place : p ≡ length before + 1
 
 -- 1
 abbrev pub bitsOut : ℕ → Situation
@@ -51,7 +41,7 @@ listOut ts why = (why ≡ no.List) × (¬ ((1 ≤ length ts) × (length ts ≤ 1
 
 -- 3
 abbrev pub oddPartOut : ℕ → List ℤ → Situation
-oddPartOut b ts why = (p : ℕ) × (why ≡ no.OddPart p) × First (λ t. 2 ^ b ≤ oddOf t) ts p
+oddPartOut b ts why = (p : ℕ) × (why ≡ no.OddPart p) × First (λ _ t. 2 ^ b ≤ oddOf t) ts p
 
 -- 4
 abbrev pub bufferShort : ℕ → ℕ → Situation
@@ -63,11 +53,11 @@ rowCountOut n w why = (why ≡ no.RowCount) × (¬ ((n ≤ mostRows) × (rowLeng
 
 -- 6
 abbrev pub rowInvalid : ℕ → List Row → Situation
-rowInvalid b xs why = (p : ℕ) × (why ≡ no.Row p) × FirstBadRow (limit b) xs p
+rowInvalid b xs why = (p : ℕ) × (why ≡ no.Row p) × First (λ before x. ¬ (Fits (limit b) before x)) xs p
 
 -- 7
 abbrev pub oddPartMissing : List Row → List ℤ → Situation
-oddPartMissing xs ts why = (p : ℕ) × (why ≡ no.Unserved p) × First (λ t. (1 < oddOf t) × (¬ List·Memᴰ (oddOf t) (values xs))) ts p
+oddPartMissing xs ts why = (p : ℕ) × (why ≡ no.Unserved p) × First (λ _ t. (1 < oddOf t) × (¬ List·Memᴰ (oddOf t) (values xs))) ts p
 
 -- 8
 abbrev pub rowsOver : List Row → Situation
@@ -79,10 +69,10 @@ widthOut w why = (why ≡ no.Width) × (¬ ((2 ≤ w) × (w ≤ 32)))
 
 -- 10, length before values
 abbrev pub readyLengthOut : List ℕ → Situation
-readyLengthOut vals why = (why ≡ no.Ready 0) × (¬ ((1 ≤ length vals) × (length vals ≤ mostRows + 1)))
+readyLengthOut vals why = (why ≡ no.Ready 0) × (¬ ((1 ≤ length vals) × (length vals ≤ mostReady)))
 
 abbrev pub readyValueOut : ℕ → List ℕ → Situation
-readyValueOut b vals why = (p : ℕ) × (why ≡ no.Ready p) × First (λ v. ¬ ((v % 2 ≡ 1) × (v < 2 ^ limit b))) vals p
+readyValueOut b vals why = (p : ℕ) × (why ≡ no.Ready p) × First (λ _ v. ¬ ((v % 2 ≡ 1) × (v < 2 ^ limit b))) vals p
 
 -- 11
 abbrev pub targetOut : ℕ → ℕ → Situation
@@ -141,7 +131,7 @@ pub record Condition1 : Type 1 where
       → numberAt (front ++ (textOf z ++ rest)) (length front) ≡ Number z (length front + length (textOf z))
   -- the row lines are a permutation of the rows: widest first, equal widths by lower row; or by row number
   pub rows-once : (byWidth : Bool) (input : ℕ) (xs : List Row) → List·Permᴰ (rowOrder byWidth input xs) (upFrom 1 (length xs))
-  pub rows-by-width : (input : ℕ) (xs : List Row) → InOrder (λ k. getD (map (rowWidth input) xs) (k - 1) 0) (rowOrder true input xs)
+  pub rows-by-width : (input : ℕ) (xs : List Row) → InOrder (λ k. getD (map (rowWidth input) (values xs)) (k - 1) 0) (rowOrder true input xs)
   pub rows-by-number : (input : ℕ) (xs : List Row) → rowOrder false input xs ≡ upFrom 1 (length xs)
   -- nothing is written on refusal
   pub multiply-quiet : (b : ℕ) (ts : List ℤ) (n : ℕ) (w : List ℕ) (x : ℤ) (why : Refusal) (before now : List ℤ)

@@ -12,7 +12,7 @@ use Rattle.meaning.specs.Limits.{limit}
 use Rattle.meaning.specs.Constants.{apart}
 use Rattle.meaning.specs.Operation.{whole, Valid, operated}
 use Rattle.meaning.specs.Generator.{generated}
-use Rattle.meaning.specs.Products.{products, targetProduct}
+use Rattle.meaning.specs.Products.{products, targetProducts}
 use Rattle.meaning.specs.Widths.{rowWidth}
 use Rattle.meaning.specs.Refusals.{number, admitted, distanceTold}
 
@@ -52,6 +52,6 @@ pub record Examples : Type 0 where
   pub p8-parts : apart (pos 768) ≡ record { sign = pos 1; shift = 8; odd = 3 }
   -- P9: -2147483648 needs no row, and times -2147483648 it is 4611686018427387904
   pub p9 : generated 8 (minus 2147483648 ∷ []) ≡ []
-  pub p9-product : targetProduct [] (minus 2147483648) (minus 2147483648) ≡ pos 4611686018427387904
+  pub p9-product : targetProducts [] (minus 2147483648) (minus 2147483648 ∷ []) ≡ pos 4611686018427387904 ∷ []
   -- P10: a row of value 3 for inputs of 2 bits is 4 bits wide
-  pub p10 : rowWidth 2 (row 0 0 0 1 0 0 3) ≡ 4
+  pub p10 : rowWidth 2 3 ≡ 4

@@ -8,7 +8,7 @@ use lib.Dec.{ltb}
 use lib.IntN.{ℤ, pos, negℤ}
 use Rattle.meaning.specs.declared.Answer.{Answer}
 use Rattle.meaning.specs.declared.Row.{Row}
-use Rattle.meaning.specs.Graph.{flat}
+use Rattle.meaning.specs.Graph.{flat, values}
 use Rattle.meaning.specs.Widths.{rowWidth, ranking}
 use Rattle.meaning.specs.Refusals.{Done, ranked, rankingWritten}
 use Rattle.tender.specs.Examples.{row}
@@ -29,10 +29,10 @@ abbrev pub targets : List ℤ
 targets = pos 3 ∷ pos 5 ∷ []
 
 pub record SortKey : Type 0 where
-  pub widths : map (rowWidth 29) two ≡ 31 ∷ 32 ∷ []
+  pub widths : map (rowWidth 29) (values two) ≡ 31 ∷ 32 ∷ []
   -- row 2 is the wider, and its peak sorts below row 1's
-  pub peaks : map (λ x. signed32 (peak (rowWidth 29 x))) two ≡ pos 1073741824 ∷ negℤ (pos 2147483648) ∷ []
-  pub order : ranking 29 two ≡ 2 ∷ 1 ∷ []
+  pub peaks : map (λ v. signed32 (peak (rowWidth 29 v))) (values two) ≡ pos 1073741824 ∷ negℤ (pos 2147483648) ∷ []
+  pub order : ranking 29 (values two) ≡ 2 ∷ 1 ∷ []
   -- whatever the call answers and leaves in a slice of two words, it is not the order of those peaks
   pub refused : (r : Answer) (after : List ℕ) → Done (ranked 8 targets 2 (flat two) 29 2) (rankingWritten 8 targets 2 (flat two) 29 2) r (0 ∷ 0 ∷ []) after
       → ¬ (after ≡ 1 ∷ 2 ∷ [])
