@@ -2,17 +2,17 @@
 use mathlib.Core.Path.{_≡_, refl, sym, ap, ap₂, _∙_, subst⁻¹, subst₂}
 use mathlib.Core.List.{List}
 use mathlib.Core.Bool.{Bool, true, false, _&&_, cond}
-use Prim.Native.Nat.{ℕ, suc, _+_, _*_, _/_, _≤_, _<_}
+use Prim.Native.Nat.{ℕ, suc, _≤_, _<_}
 use native.Mathlib.Omega.{arith}
-use borrow.Author.Tests.{le-leb, lt-leb, lt-ltb, le-ltb}
-use lib.Dec.{T, leb, eqb, eqb→eq}
+use borrow.Author.Tests.{le-leb, lt-ltb, le-ltb}
+use lib.Dec.{T, eqb, eqb→eq}
 use lib.IntN.{ℤ}
-use lib.ListN.{length, getD}
 use Rattle.meaning.specs.declared.Operated.{Operated}
 use Rattle.meaning.specs.declared.Operated.the-variants.{Made, Invalid}
 use Rattle.meaning.specs.declared.Row.{Row}
-use Rattle.meaning.specs.Limits.{limit}
-use Rattle.meaning.specs.Graph.{rowLength, rowAt, rows, ready, fits?, rowFits}
+use Rattle.meaning.specs.Basics.{all}
+use Rattle.meaning.specs.Limits.{bitTests, limit}
+use Rattle.meaning.specs.Graph.{rowAfter, rows, valueAt, fits?}
 use Rattle.laws.proofs.Graphs.{length-ready}
 use Rattle.meaning.specs.Operation.{Valid, valid?, operated, operatedUnder, whole}
 use Rattle.laws.proofs.Tests.{both-of, of-both, true-of, false-of, T-of, bool-ext, eq→eqb}
@@ -20,7 +20,7 @@ use Rattle.laws.proofs.Operations.{valid-of-test, test-of-valid, operated-made,
 
 module _ (b u v l1 l2 s : ℕ) where
   abbrev range : Bool
-  range = leb 2 b && leb b 16
+  range = all (bitTests b)
 
   abbrev under : Bool → Operated
   under t = cond t (operated (limit b) u v l1 l2 s) Invalid
@@ -64,61 +64,37 @@ module _ (b u v l1 l2 s : ℕ) where
 
 -- ---- a row of a slice
 
-false-right : (a : Bool) → false ≡ (a && false)
-false-right true = refl
-false-right false = refl
-
--- the row ends past the slice
-pub fits-outside : (b : ℕ) (w : List ℕ) (i : ℕ) → length w / rowLength ≤ i → false ≡ rowFits b w i
-unfolding rowFits
-fits-outside b w i h = rw (lt-leb (rowLength * (i + 1)) (length w) (omega arith)) (false-right (leb 2 b && leb b 16))
-
 module _ (b : ℕ) (w : List ℕ) (i : ℕ) where
-  abbrev x : Row
-  x = rowAt w (rowLength * i)
+  abbrev before : List Row
+  before = rows i w
 
-  abbrev vals : List ℕ
-  vals = ready (rows i w)
+  abbrev x : Row
+  x = rowAfter w i
 
   -- an index that is not below the row's own
-  pub fits-first : i < x .u → false ≡ rowFits b w i
-  unfolding rowFits fits?
-  fits-first h =
-      rw (length-ready i w, le-ltb (x .u) (suc i) (omega arith))
-      (both (leb 2 b && leb b 16) (leb (rowLength * (i + 1)) (length w)))
-    where
-      both : (p q : Bool) → false ≡ (p && (q && false))
-      both p true = false-right p
-      both p false = false-right p
+  pub fits-first : i < x .u → false ≡ fits? (limit b) before x
+  unfolding fits?
+  fits-first h = rw (length-ready i w, le-ltb (x .u) (suc i) (omega arith))
 
-  pub fits-second : x .u ≤ i → i < x .v → false ≡ rowFits b w i
-  unfolding rowFits fits?
-  fits-second k h =
-      rw (length-ready i w, lt-ltb (x .u) (suc i) (omega arith), le-ltb (x .v) (suc i) (omega arith))
-      (both (leb 2 b && leb b 16) (leb (rowLength * (i + 1)) (length w)))
-    where
-      both : (p q : Bool) → false ≡ (p && (q && false))
-      both p true = false-right p
-      both p false = false-right p
+  pub fits-second : x .u ≤ i → i < x .v → false ≡ fits? (limit b) before x
+  unfolding fits?
+  fits-second k h = rw (length-ready i w, lt-ltb (x .u) (suc i) (omega arith), le-ltb (x .v) (suc i) (omega arith))
 
-  -- the row is within the slice and its indices are below its own
-  pub fits-inside : i < length w / rowLength → x .u ≤ i → x .v ≤ i
-      → ((leb 2 b && leb b 16) && valid? (limit b) (getD vals (x .u) 0) (getD vals (x .v) 0) (x .l1) (x .l2) (x .s) (x .r) (x .value)) ≡ rowFits b w i
-  unfolding rowFits fits?
-  fits-inside h k l =
-      rw (
-        le-leb (rowLength * (i + 1)) (length w) (omega arith),
-        length-ready i w,
-        lt-ltb (x .u) (suc i) (omega arith),
-        lt-ltb (x .v) (suc i) (omega arith),
-      )
+  -- both are below it
+  fits-inside : x .u ≤ i → x .v ≤ i → valid? (limit b) (valueAt before (x .u)) (valueAt before (x .v)) (x .l1) (x .l2) (x .s) (x .r) (x .value) ≡ fits? (limit b) before x
+  unfolding fits?
+  fits-inside k l = rw (length-ready i w, lt-ltb (x .u) (suc i) (omega arith), lt-ltb (x .v) (suc i) (omega arith))
+
+  in-range : (2 ≤ b) × (b ≤ 16) → all (bitTests b) ≡ true
+  in-range h = rw (le-leb 2 b (h .0), le-leb b 16 (h .1))
 
   -- the same from the row y and the values p and q that code has read
-  pub fits-read : (y : Row) (p q : ℕ) (t : Bool) → y ≡ x → i < length w / rowLength → y .u ≤ i → y .v ≤ i → p ≡ getD vals (y .u) 0 → q ≡ getD vals (y .v) 0
-      → t ≡ ((leb 2 b && leb b 16) && valid? (limit b) p q (y .l1) (y .l2) (y .s) (y .r) (y .value)) → t ≡ rowFits b w i
-  fits-read y p q t e h =
+  pub fits-read : (y : Row) (p q : ℕ) (t : Bool) → (2 ≤ b) × (b ≤ 16) → y ≡ x → y .u ≤ i → y .v ≤ i → p ≡ valueAt before (y .u) → q ≡ valueAt before (y .v)
+      → t ≡ (all (bitTests b) && valid? (limit b) p q (y .l1) (y .l2) (y .s) (y .r) (y .value)) → t ≡ fits? (limit b) before x
+  fits-read y p q t h e =
       subst⁻¹
-      (λ z. z .u ≤ i → z .v ≤ i → p ≡ getD vals (z .u) 0 → q ≡ getD vals (z .v) 0
-      → t ≡ ((leb 2 b && leb b 16) && valid? (limit b) p q (z .l1) (z .l2) (z .s) (z .r) (z .value)) → t ≡ rowFits b w i) e
+      (λ z. z .u ≤ i → z .v ≤ i → p ≡ valueAt before (z .u) → q ≡ valueAt before (z .v)
+      → t ≡ (all (bitTests b) && valid? (limit b) p q (z .l1) (z .l2) (z .s) (z .r) (z .value)) → t ≡ fits? (limit b) before x) e
       (λ k l f g a.
-      a ∙ ap₂ (λ m n. (leb 2 b && leb b 16) && valid? (limit b) m n (x .l1) (x .l2) (x .s) (x .r) (x .value)) f g ∙ fits-inside h k l)
+      a ∙ ap (λ r. r && valid? (limit b) p q (x .l1) (x .l2) (x .s) (x .r) (x .value)) (in-range h)
+      ∙ ap₂ (λ m n. valid? (limit b) m n (x .l1) (x .l2) (x .s) (x .r) (x .value)) f g ∙ fits-inside k l)

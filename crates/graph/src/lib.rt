@@ -2,18 +2,19 @@
 mod valid_row;
 
 use meaning::Answer;
-use meaning::ROW_LENGTH;
+use meaning::MOST_ROWS;
 use meaning::Refusal;
 ghost use mathlib.Core.Path.{_≡_};
 ghost use mathlib.Core.Bool.{_||_};
-ghost use mathlib.Core.List.{[], _∷_};
+ghost use mathlib.Core.List.{[]};
 ghost use Prim.Native.Nat.{_*_, _≤_};
 ghost use lib.Dec.{leb};
 ghost use lib.ListN.{length};
-ghost use Rattle.meaning.specs.Limits.{mostRows};
-ghost use Rattle.meaning.specs.Basics.{all, has};
-ghost use Rattle.meaning.specs.Graph.{rowLength, rows, values};
-ghost use Rattle.meaning.specs.Refusals.{validRows, allServed, checked, sized};
+ghost use Rattle.meaning.specs.Limits.{mostTargets, mostRows};
+ghost use Rattle.meaning.specs.declared.Refusal.the-variants.{Unserved};
+ghost use Rattle.meaning.specs.Basics.{has};
+ghost use Rattle.meaning.specs.Graph.{rowLength, rows, served?};
+ghost use Rattle.meaning.specs.Refusals.{needEach, validRows, allServed, checked, sized};
 
 // Refusal 6 with the first row that is not valid.
 fn valid_rows(b: u32, n: usize, words: &[u32]) -> Answer
@@ -30,42 +31,26 @@ fn valid_rows(b: u32, n: usize, words: &[u32]) -> Answer
     Answer::Accepted
 }
 
-// Some row has this value.
-fn has_value(value: u32, n: usize, words: &[u32]) -> bool
-    requires { ⌜ (n ≤ mostRows) × (rowLength * n ≤ length (now words)) ⌝ }
-    ensures { λ r. ⌜ r ≡ has (values (rows n (now (words .entry)))) value ⌝ }
-{
-    let mut k = 0;
-    while k < n {
-        if words[ROW_LENGTH * k + 6] == value {
-            return true;
-        }
-        k += 1;
-    }
-    false
-}
-
-// An odd part needs no row, or some row has it.
-fn served(odd: u32, n: usize, words: &[u32]) -> bool
-    requires { ⌜ (n ≤ mostRows) × (rowLength * n ≤ length (now words)) ⌝ }
-    ensures { λ r. ⌜ r ≡ (leb odd 1 || has (values (rows n (now (words .entry)))) odd) ⌝ }
+// An odd part needs no row, or some row has it: the rows' values are lent.
+fn served(odd: u32, values: &[u32]) -> bool
+    ensures { λ r. ⌜ r ≡ (leb odd 1 || has (now (values .entry)) odd) ⌝ }
 {
     if odd <= 1 {
         return true;
     }
-    has_value(odd, n, words)
+    arith::has(values, values.len(), odd)
 }
 
 // Refusal 7 with the first target whose odd part no row has.
-fn all_served(ts: &[i32], n: usize, words: &[u32]) -> Answer
-    requires { ⌜ (length (now ts) ≤ 16) × ((n ≤ mostRows) × (rowLength * n ≤ length (now words))) ⌝ }
-    ensures { λ r. ⌜ r ≡ allServed (rows n (now (words .entry))) (now (ts .entry)) ⌝ }
+fn each_served(ts: &[i32], values: &[u32]) -> Answer
+    requires { ⌜ length (now ts) ≤ mostTargets ⌝ }
+    ensures { λ r. ⌜ r ≡ needEach Unserved (λ _ t. served? (now (values .entry)) t) [] (now (ts .entry)) ⌝ }
 {
     let mut i = 0;
     while i < ts.len() {
         let t = ts[i];
         let parts = constants::take_apart(t);
-        if !served(parts.odd, n, words) {
+        if !served(parts.odd, values) {
             return Answer::Refused(Refusal::Unserved((i + 1) as u32));
         }
         i += 1;
@@ -73,14 +58,14 @@ fn all_served(ts: &[i32], n: usize, words: &[u32]) -> Answer
     Answer::Accepted
 }
 
-// The row count is refused before any word is read.
-fn in_slice(n: usize, words: &[u32]) -> bool
-    ensures { λ r. ⌜ r ≡ all (leb n mostRows ∷ leb (rowLength * n) (length (now (words .entry))) ∷ []) ⌝ }
+// The same of the rows in a slice.
+fn all_served(ts: &[i32], n: usize, words: &[u32]) -> Answer
+    requires { ⌜ (length (now ts) ≤ mostTargets) × ((n ≤ mostRows) × (rowLength * n ≤ length (now words))) ⌝ }
+    ensures { λ r. ⌜ r ≡ allServed (rows n (now (words .entry))) (now (ts .entry)) ⌝ }
 {
-    if 128 < n {
-        return false;
-    }
-    ROW_LENGTH * n <= words.len()
+    let mut values = [0u32; MOST_ROWS];
+    rows::values(n, words, &mut values);
+    each_served(ts, &values[..n])
 }
 
 // Refusals 1, 2, 3, 5, 6 and 7. Words beyond the rows are ignored.
@@ -91,7 +76,7 @@ pub fn check(b: u32, ts: &[i32], n: usize, words: &[u32]) -> Answer
     let Answer::Accepted = admitted else {
         return admitted;
     };
-    if !in_slice(n, words) {
+    if !rows::within(n, words) {
         return Answer::Refused(Refusal::RowCount);
     }
     let valid = valid_rows(b, n, words);

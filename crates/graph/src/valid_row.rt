@@ -1,17 +1,18 @@
 // A row's validity: its words agree with a valid operation on the values of its two indices, which are below its own.
 use meaning::Operated;
-use meaning::ROW_LENGTH;
 use meaning::Row;
 ghost use mathlib.Core.Path.{_≡_};
 ghost use mathlib.Core.Bool.{_&&_};
-ghost use lib.Dec.{leb};
-ghost use Rattle.meaning.specs.Limits.{limit};
+ghost use Prim.Native.Nat.{_+_, _*_, _≤_};
+ghost use lib.ListN.{length};
+ghost use Rattle.meaning.specs.Basics.{all};
+ghost use Rattle.meaning.specs.Limits.{bitTests, limit};
 ghost use Rattle.meaning.specs.Operation.{valid?};
-ghost use Rattle.meaning.specs.Graph.{rowFits};
+ghost use Rattle.meaning.specs.Graph.{rowLength, rowAfter, rows, fits?};
 
 // A row's shifts, sign, r and value agree with a valid operation on u and v.
 fn agrees(b: u32, u: u32, v: u32, x: Row) -> bool
-    ensures { λ r. ⌜ r ≡ ((leb 2 b && leb b 16) && valid? (limit b) u v (x .l1) (x .l2) (x .s) (x .r) (x .value)) ⌝ }
+    ensures { λ r. ⌜ r ≡ (all (bitTests b) && valid? (limit b) u v (x .l1) (x .l2) (x .s) (x .r) (x .value)) ⌝ }
 {
     let made = operation::operate(b, u, v, x.l1, x.l2, x.s);
     let Operated::Made { n: _, r, value } = made else {
@@ -23,14 +24,12 @@ fn agrees(b: u32, u: u32, v: u32, x: Row) -> bool
     value == x.value
 }
 
-// The row after i rows is within the slice and valid, under the bit limit b.
+// The row after i rows is valid after them, under the bit limit b.
 pub fn row_fits(b: u32, words: &[u32], i: usize) -> bool
-    ensures { λ r. ⌜ r ≡ rowFits b (now (words .entry)) i ⌝ }
+    requires { ⌜ ((2 ≤ b) × (b ≤ 16)) × (rowLength * (i + 1) ≤ length (now words)) ⌝ }
+    ensures { λ r. ⌜ r ≡ fits? (limit b) (rows i (now (words .entry))) (rowAfter (now (words .entry)) i) ⌝ }
 {
-    if words.len() / ROW_LENGTH <= i {
-        return false;
-    }
-    let x = rows::row_at(words, ROW_LENGTH * i);
+    let x = rows::row_after(words, i);
     let first = x.u as usize;
     let second = x.v as usize;
     if i < first {

@@ -7,8 +7,9 @@ use native.Mathlib.Decide.{decLt}
 use native.Mathlib.Omega.{arith}
 use lib.Dec.{T, ltb, ltb→lt, lt→ltb}
 use lib.ListN.{length, getD, take, drop}
-use lib.Seq.{getD-drop}
+use lib.Seq.{getD-drop, take-at}
 use Rattle.meaning.specs.declared.Row.{Row}
+use Rattle.meaning.specs.Basics.{over}
 use Rattle.meaning.specs.Graph.{rowLength, words, rowAt, rowAfter, rows, flat, values, ready, Fits, fits?, Sound}
 use Rattle.laws.proofs.Tests.{both-of, of-both}
 use Rattle.laws.proofs.Operations.{exact-of, valid-of-test, test-of-valid}
@@ -76,6 +77,11 @@ value-is (suc n) w (suc k) h =
 -- the values by index of some rows and of others after them
 pub ready-append : (made new : List Row) → ready (made ++ new) ≡ ready made ++ values new
 ready-append made new = ap (λ l. 1 ∷ l) (map-append (λ x. x .value) made new)
+
+-- the rows' values, written over the front of a slice, are its first n
+pub values-part : (n : ℕ) (w old : List ℕ) → take n (over (values (rows n w)) old) ≡ values (rows n w)
+unfolding over
+values-part n w old = take-at (values (rows n w)) (drop (length (values (rows n w))) old) n (length-values (rows n w) ∙ length-rows n w)
 
 -- rows written and read again, whatever stands behind them
 pub rows-flat : (xs : List Row) (rest : List ℕ) → rows (length xs) (flat xs ++ rest) ≡ xs

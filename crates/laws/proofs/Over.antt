@@ -7,10 +7,7 @@ use native.Mathlib.Nat.{suc-add}
 use native.Mathlib.Numerals.{add-one}
 use lib.ListN.{length, take, drop, getD, set, length-append, length-drop, length-map, take-append-drop}
 use lib.Seq.{take-at, drop-at, drop-drop, take-suc, take-length, length-take-le, sets, sets-eq}
-use Rattle.meaning.specs.declared.Row.{Row}
 use Rattle.meaning.specs.Basics.{over, overAt}
-use Rattle.meaning.specs.Graph.{rowLength, rowAt, rows}
-use Rattle.laws.proofs.Graphs.{length-rows, rows-more}
 
 module _ {A : Type 0} where
   -- the next place
@@ -78,14 +75,15 @@ module _ {A : Type 0} where
   over-at-sets at vs old h =
       sets-eq vs old at h ∙ ap (λ l. take at old ++ vs ++ l) (sym (drop-drop (length vs) at old)) ∙ append-assoc (take at old) vs (drop (length vs) (drop at old))
 
--- the rows' part of what a loop over the rows writes
-pub over-rows : {B : Type 0} (f : Row → B) (w : List ℕ) (old : List B) (i : ℕ) → i < length old
-    → set (over (map f (rows i w)) old) i (f (rowAt w (rowLength * i))) ≡ over (map f (rows (i + 1) w)) old
-over-rows f w old i h =
-    over-at (map f (rows i w)) old (f (rowAt w (rowLength * i))) i (length-map (rows i w) f ∙ length-rows i w) h
-    ∙ ap (λ l. over l old) (sym (map-append f (rows i w) (rowAt w (rowLength * i) ∷ [])) ∙ ap (map f) (sym (rows-more i w) ∙ ap (λ k. rows k w) (sym (add-one i))))
+-- what a loop over a list writes: the members passed
+module _ {A : Type 0} where
+  pub over-taken : (xs : List A) (d : A) (old : List A) (i : ℕ) → i < length xs → i < length old
+      → set (over (take i xs) old) i (getD xs i d) ≡ over (take (i + 1) xs) old
+  over-taken xs d old i k h =
+      over-at (take i xs) old (getD xs i d) i (length-take-le i xs (omega arith)) h
+      ∙ ap (λ l. over l old) (sym (take-suc xs i d k) ∙ ap (λ j. take j xs) (sym (add-one i)))
 
--- and of a loop over a list: at its start, at a turn, from place n on too, and at its end
+-- and what a function makes of each: at its start, at a turn, from place n on too, and at its end
 module _ {A B : Type 0} (f : A → B) where
   pub over-start : (xs : List A) (old : List B) → old ≡ over (map f (take 0 xs)) old
   unfolding over

@@ -7,8 +7,9 @@ use mathlib.Core.Logic.{⊎-elim}
 use Prim.Native.Nat.{ℕ, zero, suc, _+_, _-_, _*_, _%_, _^_, _≤_, _<_, min}
 use native.Mathlib.Nat.{mul-assoc, div-one, pow-succ', le-of-suc-le-suc}
 use native.Mathlib.Numerals.{add-one}
+use native.Mathlib.Decide.{decLe}
 use native.Mathlib.Omega.{arith}
-use borrow.Author.Tests.{ltb-true, eq-eqb, ne-eqb}
+use borrow.Author.Tests.{ltb-true, eq-eqb, ne-eqb, le-leb, lt-leb}
 use lib.Dec.{T, ltb, leb, eqb, eqb→eq, leb→le}
 use lib.IntN.{ℤ, pos, negsuc, negℤ, natAbs, _-ℤ_, _*ℤ_, zero-*ℤ, *ℤ-comm}
 use lib.Signed.{quotZ, nonNeg}
@@ -167,30 +168,36 @@ index-end k i xs c h = rw (drop-of-length-le xs h)
 -- ---- a target's product
 
 -- of a target that is not zero
-pub served-index : (xs : List Row) (t : ℤ) → oddOf t % 2 ≡ 1 → T (served? (values xs) t) → Lowest (ready xs) (oddOf t) (outputIndex (ready xs) (oddOf t))
+pub served-index : (xs : List Row) (t : ℤ) → oddOf t % 2 ≡ 1 → T (served? (values xs) t) → Lowest (ready xs) (oddOf t) (outputIndex (values xs) (oddOf t))
 unfolding served? outputIndex
-served-index xs t o h =
-    let (i, e, l) = index-is 0 (ready xs) (oddOf t) (⊎-elim one other (either-of (leb (oddOf t) 1) (has (values xs) (oddOf t)) h)) in
-    subst (Lowest (ready xs) (oddOf t)) (sym (rw (ne-eqb (oddOf t) 0 (omega arith)) (e ∙ omega arith))) l
+served-index xs t o h = go (decLe (oddOf t) 1)
   where
-    one : T (leb (oddOf t) 1) → T (has (ready xs) (oddOf t))
-    one q = of-left (eqb 1 (oddOf t)) (has (values xs) (oddOf t)) (eq→eqb 1 (oddOf t) (omega (arith, leb→le (oddOf t) 1 q)))
+    first : oddOf t ≡ 1 → Lowest (ready xs) (oddOf t) 0
+    first e = record { inside = omega arith; at = sym e; below = λ j k q. absurd (omega arith) }
 
-    other : T (has (values xs) (oddOf t)) → T (has (ready xs) (oddOf t))
-    other q = of-right (eqb 1 (oddOf t)) (has (values xs) (oddOf t)) q
+    later : (1 < oddOf t) → (i : ℕ) → Lowest (values xs) (oddOf t) i → Lowest (ready xs) (oddOf t) (suc i)
+    later k i l =
+        record { inside = let h = l .inside in omega arith; at = l .at; below = none-below 1 (values xs) (oddOf t) i (ne-eqb 1 (oddOf t) (omega arith)) (l .below) }
 
-served-product : (L : ℕ) (xs : List Row) (x t : ℤ) → Sound L [] xs → T (served? (values xs) t) → oddOf t % 2 ≡ 1 → targetProduct (ready xs) (products xs x) t ≡ t *ℤ x
+    go : Dec (oddOf t ≤ 1) → Lowest (ready xs) (oddOf t) (cond (leb (oddOf t) 1) 0 (indexFrom 1 (values xs) (oddOf t)))
+    go (yes k) = rw (le-leb (oddOf t) 1 k) (first (omega arith))
+    go (no n) =
+        let has-it = ⊎-elim (λ q. absurd (n (leb→le (oddOf t) 1 q))) (λ q. q) (either-of (leb (oddOf t) 1) (has (values xs) (oddOf t)) h) in
+        let (i, e, l) = index-is 1 (values xs) (oddOf t) has-it in
+        rw (lt-leb (oddOf t) 1 (omega arith)) (subst (Lowest (ready xs) (oddOf t)) (sym (e ∙ omega arith)) (later (omega arith) i l))
+
+served-product : (L : ℕ) (xs : List Row) (x t : ℤ) → Sound L [] xs → T (served? (values xs) t) → oddOf t % 2 ≡ 1 → targetProduct (values xs) (products xs x) t ≡ t *ℤ x
 unfolding targetProduct apart
 served-product L xs x t g h o =
-    rw (products-are L xs x g, product-at x (ready xs) (outputIndex (ready xs) (oddOf t)), served-index xs t o h .at)
+    rw (products-are L xs x g, product-at x (ready xs) (outputIndex (values xs) (oddOf t)), served-index xs t o h .at)
     (ap (λ z. signOf t *ℤ z) (sym (mul-assocℤ (pos (2 ^ shiftOf t)) (pos (oddOf t)) x))
     ∙ sym (mul-assocℤ (signOf t) (pos (2 ^ shiftOf t * oddOf t)) x)
     ∙ ap (λ z. z *ℤ x) (sym (apart-whole t)))
 
 -- the product of a target is the target times x: zero and signed powers of two too
-pub target-product : (L : ℕ) (xs : List Row) (x t : ℤ) → Sound L [] xs → T (served? (values xs) t) → targetProduct (ready xs) (products xs x) t ≡ t *ℤ x
+pub target-product : (L : ℕ) (xs : List Row) (x t : ℤ) → Sound L [] xs → T (served? (values xs) t) → targetProduct (values xs) (products xs x) t ≡ t *ℤ x
 unfolding targetProduct
-target-product L xs x (pos zero) g h = zero-*ℤ (pos (2 ^ shiftOf (pos 0)) *ℤ getD (products xs x) (outputIndex (ready xs) (oddOf (pos 0))) (pos 0)) ∙ sym (zero-*ℤ x)
+target-product L xs x (pos zero) g h = zero-*ℤ (pos (2 ^ shiftOf (pos 0)) *ℤ getD (products xs x) (outputIndex (values xs) (oddOf (pos 0))) (pos 0)) ∙ sym (zero-*ℤ x)
 target-product L xs x (pos (suc n)) g h = served-product L xs x (pos (suc n)) g h (zeros-left (suc n) (omega arith))
 target-product L xs x (negsuc n) g h = served-product L xs x (negsuc n) g h (zeros-left (suc n) (omega arith))
 

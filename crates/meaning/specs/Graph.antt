@@ -2,7 +2,7 @@
 use mathlib.Core.Bool.{Bool, _&&_, _||_, cond}
 use mathlib.Core.List.{List, [], _∷_, _++_, map}
 use Prim.Native.Nat.{ℕ, zero, suc, _+_, _*_, _<_}
-use lib.Dec.{ltb, leb, eqb}
+use lib.Dec.{ltb, leb}
 use lib.IntN.{ℤ}
 use lib.ListN.{length, getD, drop}
 use Rattle.meaning.specs.declared.Row.{Row}
@@ -83,6 +83,7 @@ Sound L before (x ∷ xs) = Fits L before x × Sound L (before ++ (x ∷ [])) xs
 unfoldable pub served? : List ℕ → ℤ → Bool
 served? vals t = leb (oddOf t) 1 || has vals (oddOf t)
 
--- the index that an output of some odd part uses: the lowest that has it as value; a zero target, which has none, uses 0. vals are the values by index
+-- the index that an output of some odd part uses, the lowest that has it as value: the input's, which has 1, or that of the first row which has it. A zero
+-- target, which has no odd part, uses the input too
 unfoldable pub outputIndex : List ℕ → ℕ → ℕ
-outputIndex vals odd = cond (eqb odd 0) 0 (indexFrom 0 vals odd)
+outputIndex vals odd = cond (leb odd 1) 0 (indexFrom 1 vals odd)

@@ -16,7 +16,7 @@ use Rattle.meaning.specs.declared.Row.{Row}
 use Rattle.meaning.specs.Basics.{upFrom}
 use Rattle.meaning.specs.Constants.{signOf, shiftOf, oddOf, wanted}
 use Rattle.meaning.specs.Digits.{csdSum}
-use Rattle.meaning.specs.Graph.{rowAt, values, ready, outputIndex}
+use Rattle.meaning.specs.Graph.{rowAt, values, outputIndex}
 use Rattle.meaning.specs.Generator.{generated}
 use Rattle.meaning.specs.Widths.{rowWidth, outputWidth, ranking}
 use Rattle.meaning.specs.Refusals.{number, placeOf, firstOf}
@@ -88,7 +88,7 @@ rowTexts input xs (i ∷ order) = rowText input xs i ++ rowTexts input xs order
 
 -- the line of target k
 abbrev pub outText : ℕ → List Row → ℕ → ℤ → List ℕ
-outText input xs k t = outLine k (outputIndex (ready xs) (oddOf t)) (shiftOf t) (signOf t) (outputWidth input t)
+outText input xs k t = outLine k (outputIndex (values xs) (oddOf t)) (shiftOf t) (signOf t) (outputWidth input t)
 
 unfoldable pub outTexts : ℕ → List Row → ℕ → List ℤ → List ℕ
 outTexts input xs k [] = []

@@ -8,7 +8,7 @@ use lib.Signed.{quotZ}
 use lib.ListN.{getD}
 use Rattle.meaning.specs.declared.Row.{Row}
 use Rattle.meaning.specs.Constants.{signOf, shiftOf, oddOf}
-use Rattle.meaning.specs.Graph.{ready, outputIndex}
+use Rattle.meaning.specs.Graph.{values, ready, outputIndex}
 
 -- n is negative: s is 1 and 2^l1 u is less than 2^l2 v
 abbrev pub negative? : (u v l1 l2 s : ℕ) → Bool
@@ -42,9 +42,9 @@ productsFrom before ps (x ∷ xs) = productsFrom (before ++ (x ∷ [])) (ps ++ (
 unfoldable pub products : List Row → ℤ → List ℤ
 products xs x = productsFrom [] (x ∷ []) xs
 
--- the product of a target: sign × 2^shift × its row's product, by the values and the products of the indices
+-- the product of a target: sign × 2^shift × its row's product, by the rows' values and the products of the indices
 unfoldable pub targetProduct : List ℕ → List ℤ → ℤ → ℤ
 targetProduct vals ps t = signOf t *ℤ (pos (2 ^ shiftOf t) *ℤ getD ps (outputIndex vals (oddOf t)) (pos 0))
 
 unfoldable pub targetProducts : List Row → ℤ → List ℤ → List ℤ
-targetProducts xs x ts = map (targetProduct (ready xs) (products xs x)) ts
+targetProducts xs x ts = map (targetProduct (values xs) (products xs x)) ts

@@ -15,8 +15,18 @@ pub enum Operated {
     Invalid,
 }
 
-// How many words a row of a graph has.
+// How many targets a list has, and how many rows a graph, at most (specs/Limits.antt).
+pub const MOST_TARGETS: usize = 16;
+
+pub const MOST_ROWS: usize = 128;
+
+// The indices of a full graph: the input and the rows. A ready list is as long at most.
+pub const MOST_READY: usize = MOST_ROWS + 1;
+
+// How many words a row of a graph has, and a full graph (specs/Graph.antt).
 pub const ROW_LENGTH: usize = 7;
+
+pub const FULL_LENGTH: usize = ROW_LENGTH * MOST_ROWS;
 
 // A graph's row, its words in their order.
 pub struct Row {

@@ -5,6 +5,7 @@ ghost use mathlib.Core.List.{[], _∷_};
 ghost use Prim.Native.Nat.{_+_, _<_, _≤_, min};
 ghost use lib.Dec.{leb, eqb};
 ghost use Rattle.meaning.specs.Basics.{all};
+ghost use Rattle.meaning.specs.Limits.{mostLimit};
 ghost use Rattle.meaning.specs.Operation.{whole, operated, operatedUnder};
 ghost use Rattle.operation.specs.Code.{outcomeOf};
 
@@ -29,7 +30,7 @@ fn shifts_fit(limit: u32, l1: u32, l2: u32, s: u32) -> bool
 
 // n = 2^l1 × u + (-1)^s × 2^l2 × v
 fn whole_of(u: u32, v: u32, l1: u32, l2: u32, s: u32) -> i64
-    requires { ⌜ (l1 ≤ 30) × (l2 ≤ 30) ⌝ }
+    requires { ⌜ (l1 ≤ mostLimit) × (l2 ≤ mostLimit) ⌝ }
     ensures { λ r. ⌜ r ≡ whole u v l1 l2 s ⌝ }
 {
     let a = arith::shifted(u, l1) as i64;
@@ -42,7 +43,7 @@ fn whole_of(u: u32, v: u32, l1: u32, l2: u32, s: u32) -> i64
 
 // What n comes to: r is all the trailing zeros of |n|, and the value is what is left, if that is below 2^limit.
 fn outcome_of(limit: u32, n: i64) -> Operated
-    requires { ⌜ limit ≤ 30 ⌝ }
+    requires { ⌜ limit ≤ mostLimit ⌝ }
     ensures { λ r. ⌜ r ≡ outcomeOf limit n ⌝ }
 {
     let m = arith::magnitude64(n);
@@ -63,7 +64,7 @@ fn outcome_of(limit: u32, n: i64) -> Operated
 
 // The operation under any limit that the product knows.
 fn made(limit: u32, u: u32, v: u32, l1: u32, l2: u32, s: u32) -> Operated
-    requires { ⌜ limit ≤ 30 ⌝ }
+    requires { ⌜ limit ≤ mostLimit ⌝ }
     ensures { λ r. ⌜ r ≡ operated limit u v l1 l2 s ⌝ }
 {
     if !shifts_fit(limit, l1, l2, s) {
@@ -80,5 +81,6 @@ pub fn operate(b: u32, u: u32, v: u32, l1: u32, l2: u32, s: u32) -> Operated
     if !arith::within(b as usize, 2, 16) {
         return Operated::Invalid;
     }
-    made(b + 1, u, v, l1, l2, s)
+    let limit = arith::limit(b);
+    made(limit, u, v, l1, l2, s)
 }

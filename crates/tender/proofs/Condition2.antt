@@ -162,7 +162,7 @@ exactly b ts n w a m l = (there, back)
 
 -- ---- products
 
-gives : (b : ℕ) (ts : List ℤ) (n : ℕ) (w : List ℕ) (x t : ℤ) → checked b ts n w ≡ Accepted → List·Memᴰ t ts → targetProduct (ready (rows n w)) (products (rows n w) x) t ≡ t *ℤ x
+gives : (b : ℕ) (ts : List ℤ) (n : ℕ) (w : List ℕ) (x t : ℤ) → checked b ts n w ≡ Accepted → List·Memᴰ t ts → targetProduct (values (rows n w)) (products (rows n w) x) t ≡ t *ℤ x
 gives b ts n w x t e i = let g = good-of b ts n w e in target-product (limit b) (rows n w) x t (g .sound) (g .serves t i)
 
 -- acceptance with a buffer is acceptance by the check

@@ -55,7 +55,7 @@ pub record Condition2 : Type 0 where
       → (checked b ts n w ≡ Accepted) ↔ (EveryRowValid b (rows n w) × EveryConstantMade (rows n w) ts)
   -- an accepted graph gives t times x for every listed t: worked by the rows' words, and as it is written
   pub gives-products : (b : ℕ) (ts : List ℤ) (n : ℕ) (w : List ℕ) (x t : ℤ) → checked b ts n w ≡ Accepted → List·Memᴰ t ts
-      → targetProduct (ready (rows n w)) (products (rows n w) x) t ≡ t *ℤ x
+      → targetProduct (values (rows n w)) (products (rows n w) x) t ≡ t *ℤ x
   pub writes-products : (b : ℕ) (ts : List ℤ) (n : ℕ) (w : List ℕ) (x : ℤ) (room : ℕ) → multiplied b ts n w room ≡ Accepted
       → productsWritten b ts n w x room ≡ map (λ t. t *ℤ x) ts
   -- and each row gives its value times x

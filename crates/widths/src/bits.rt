@@ -1,9 +1,6 @@
 // How many bits a value, a row and an output take.
-use meaning::ROW_LENGTH;
 ghost use mathlib.Core.Path.{_≡_};
-ghost use Prim.Native.Nat.{_+_, _*_, _≤_};
-ghost use lib.ListN.{length};
-ghost use Rattle.meaning.specs.Graph.{rowLength, rowAt};
+ghost use Prim.Native.Nat.{_≤_};
 ghost use Rattle.meaning.specs.Widths.{extraBits, rowWidth, outputWidth};
 
 // The least e with 2^e at least value.
@@ -16,12 +13,11 @@ pub fn extra_bits(value: u32) -> u32
     32 - u32::leading_zeros(value - 1)
 }
 
-// The width of the row after i rows.
-pub fn row_width(words: &[u32], i: usize, input: u32) -> u32
-    requires { ⌜ (input ≤ 32) × (rowLength * (i + 1) ≤ length (now words)) ⌝ }
-    ensures { λ r. ⌜ r ≡ rowWidth input (rowAt (now (words .entry)) (rowLength * i)) ⌝ }
+// The width of a row of this value.
+pub fn row_width(value: u32, input: u32) -> u32
+    requires { ⌜ input ≤ 32 ⌝ }
+    ensures { λ r. ⌜ r ≡ rowWidth input value ⌝ }
 {
-    let value = words[ROW_LENGTH * i + 6];
     input + extra_bits(value)
 }
 

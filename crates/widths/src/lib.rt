@@ -2,26 +2,38 @@
 pub mod bits;
 
 use meaning::Answer;
+use meaning::MOST_ROWS;
 use meaning::Refusal;
 ghost use mathlib.Core.Path.{_≡_};
 ghost use mathlib.Core.List.{map};
 ghost use Prim.Native.Nat.{_+_, _*_, _≤_};
 ghost use lib.ListN.{length};
 ghost use Rattle.meaning.specs.Basics.{over, overAt};
-ghost use Rattle.meaning.specs.Graph.{rowLength, rows};
+ghost use Rattle.meaning.specs.Limits.{mostRows};
+ghost use Rattle.meaning.specs.Graph.{rowLength, rows, values};
 ghost use Rattle.meaning.specs.Widths.{rowWidth, outputWidth};
 ghost use Rattle.meaning.specs.Refusals.{Done, measured, widthsWritten};
 
-// The rows' widths, in row order, from the front.
-fn row_widths(words: &[u32], n: usize, input: u32, out: &mut [u32])
-    requires { ⌜ ((input ≤ 32) × (rowLength * n ≤ length (now words))) × (n ≤ length (now out)) ⌝ }
-    ensures { λ _. ⌜ now (out .exit) ≡ over (map (rowWidth input) (rows n (now (words .entry)))) (now (out .entry)) ⌝ }
+// The rows' widths by their values, from the front.
+fn each_width(values: &[u32], input: u32, out: &mut [u32])
+    requires { ⌜ (input ≤ 32) × (length (now values) ≤ length (now out)) ⌝ }
+    ensures { λ _. ⌜ now (out .exit) ≡ over (map (rowWidth input) (now (values .entry))) (now (out .entry)) ⌝ }
 {
     let mut i = 0;
-    while i < n {
-        out[i] = bits::row_width(words, i, input);
+    while i < values.len() {
+        out[i] = bits::row_width(values[i], input);
         i += 1;
     }
+}
+
+// The same of the rows in a slice.
+fn row_widths(words: &[u32], n: usize, input: u32, out: &mut [u32])
+    requires { ⌜ ((input ≤ 32) × ((n ≤ mostRows) × (rowLength * n ≤ length (now words)))) × (n ≤ length (now out)) ⌝ }
+    ensures { λ _. ⌜ now (out .exit) ≡ over (map (rowWidth input) (values (rows n (now (words .entry))))) (now (out .entry)) ⌝ }
+{
+    let mut values = [0u32; MOST_ROWS];
+    rows::values(n, words, &mut values);
+    each_width(&values[..n], input, out);
 }
 
 // The outputs' widths, in the order of the targets, from a place on.

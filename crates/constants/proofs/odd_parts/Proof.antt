@@ -1,13 +1,14 @@
 -- `odd_parts` meets its contract. The loop's invariant: the answer for the list is the answer for what is left of it. Assumes nothing.
 use mathlib.Core.Path.{_≡_, refl, sym, ap, _∙_}
 use mathlib.Core.Bool.{Bool}
+use mathlib.Core.List.{List}
 use Prim.Native.Nat.{ℕ, _+_, _*_, _-_, _%_, _^_, _≤_}
 use native.Mathlib.Omega.{arith}
 use borrow.Author.Needs.{needs}
 use borrow.Author.Tests.{lt-ltb, le-ltb}
 use lib.Dec.{ltb}
 use lib.IntN.{ℤ, pos}
-use lib.ListN.{length, drop, getD}
+use lib.ListN.{length, take, drop, getD}
 use lib.Pow.{shl-exact}
 use mir.Syntax.{w32}
 use mir.ValLaws.{toZ-ofZ}
@@ -15,18 +16,18 @@ use Rattle.meaning.specs.declared.Answer.the-variants.{Refused}
 use Rattle.meaning.specs.declared.Refusal.the-variants.{OddPart}
 use Rattle.meaning.specs.Constants.{oddOf, apart}
 use Rattle.meaning.specs.Refusals.{needEach, oddParts}
-use Rattle.laws.proofs.Walks.{each-miss, each-hit, each-end}
+use Rattle.laws.proofs.Members.{each-miss, each-hit, each-end}
 use Rattle.constants.proofs.odd_parts.Statement.{statement}
 use Rattle.constants.proofs.odd_parts.Tie as tie
 use Rattle.constants.proofs.odd_parts.Reads as reads
 use Rattle.constants.proofs.odd_parts.Lts as lts
 use Rattle.constants.proofs.take_apart.Reads as take-apart-reads
 
-abbrev small : ℕ → ℤ → Bool
-small b t = ltb (oddOf t) (2 ^ b)
+abbrev small : ℕ → List ℤ → ℤ → Bool
+small b before t = ltb (oddOf t) (2 ^ b)
 
 abbrev Inv-loop : tie.InvT-loop
-Inv-loop b ts top i₀ i = (i ≤ length ts) × (oddParts b ts ≡ needEach OddPart (small b) (1 + i) (drop i ts))
+Inv-loop b ts top i₀ i = (i ≤ length ts) × (oddParts b ts ≡ needEach OddPart (small b) (take i ts) (drop i ts))
 
 abbrev μ-loop : tie.MeasureT-loop
 μ-loop b ts top i₀ i = length ts - i
@@ -68,9 +69,8 @@ returns c =
     let ts = s .before .args .ts .now in
     sym
     (s .loop .inv .1
-    ∙ each-hit OddPart (small b) (pos 0) (1 + s .loop .i) (s .loop .i) ts (c .before .before .before .before .loop-test .taken)
-    (le-ltb _ _ (rw (odd-is (c .before), power b (s .before .pre .0)) at (c .if1 .taken)))
-    ∙ ap (λ n. Refused (OddPart n)) (omega arith))
+    ∙ each-hit OddPart (small b) (pos 0) (s .loop .i) ts (c .before .before .before .before .loop-test .taken)
+    (le-ltb _ _ (rw (odd-is (c .before), power b (s .before .pre .0)) at (c .if1 .taken))))
 
 add-i : tie.Need-add-i Inv-loop μ-loop
 add-i c = search needs
@@ -85,15 +85,14 @@ loop-again c =
     let ts = s .before .args .ts .now in (
       omega arith,
       s .loop .inv .1
-          ∙ each-miss OddPart (small b) (pos 0) (1 + s .loop .i) (s .loop .i) ts (c .before .before .before .before .loop-test .taken)
-          (lt-ltb _ _ (rw (odd-is (c .before), power b (s .before .pre .0)) at (c .if1 .left)))
-          ∙ ap (λ n. needEach OddPart (small b) n (drop (s .loop .i + 1) ts)) (omega arith),
+          ∙ each-miss OddPart (small b) (pos 0) (s .loop .i) ts (c .before .before .before .before .loop-test .taken)
+          (lt-ltb _ _ (rw (odd-is (c .before), power b (s .before .pre .0)) at (c .if1 .left))),
     )
 
 returns-2 : tie.Need-returns-2 Inv-loop μ-loop
 returns-2 c =
     let b = c .before .before .args .b in
-    sym (c .before .loop .inv .1 ∙ each-end OddPart (small b) (pos 0) _ (c .before .loop .i) (c .before .before .args .ts .now) (c .loop-test .left))
+    sym (c .before .loop .inv .1 ∙ each-end OddPart (small b) (pos 0) (c .before .loop .i) (c .before .before .args .ts .now) (c .loop-test .left))
 
 pub odd-parts-spec : {M : Type 1} → statement M
 odd-parts-spec =

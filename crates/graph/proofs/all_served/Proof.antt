@@ -1,110 +1,47 @@
--- `all_served` meets its contract. The loop's invariant: the answer for the list is the answer for what is left of it. Assumes nothing.
-use mathlib.Core.Path.{_≡_, refl, sym, ap, _∙_}
-use mathlib.Core.Bool.{_||_}
-use Prim.Native.Nat.{_+_, _-_, _≤_}
-use native.Mathlib.Omega.{arith}
+-- `all_served` meets its contract: the rows' values are looked through. Assumes nothing.
+use mathlib.Core.Path.{_≡_, sym, ap, _∙_}
+use mathlib.Core.List.{[]}
 use borrow.Author.Needs.{needs}
-use borrow.Author.Tests.{not-true, not-false}
-use lib.Dec.{leb}
-use lib.IntN.{pos}
-use lib.ListN.{length, drop, getD}
-use mir.Syntax.{w32}
-use mir.ValLaws.{toZ-ofZ}
-use Rattle.meaning.specs.declared.Answer.the-variants.{Refused}
+use lib.ListN.{length, take}
 use Rattle.meaning.specs.declared.Refusal.the-variants.{Unserved}
-use Rattle.meaning.specs.Basics.{has}
-use Rattle.meaning.specs.Constants.{apart}
 use Rattle.meaning.specs.Graph.{rows, values, served?}
-use Rattle.meaning.specs.Refusals.{needEach, allServed}
-use Rattle.laws.proofs.Walks.{each-miss, each-hit, each-end}
+use Rattle.meaning.specs.Refusals.{needEach}
+use Rattle.laws.proofs.Graphs.{length-rows, length-values, values-part}
 use Rattle.graph.proofs.all_served.Statement.{statement}
 use Rattle.graph.proofs.all_served.Tie as tie
 
-abbrev Inv-loop : tie.InvT-loop
-Inv-loop ts n words i₀ i = (i ≤ length ts) × (allServed (rows n words) ts ≡ needEach Unserved (served? (rows n words)) (1 + i) (drop i ts))
+values-are : (c : tie.After-values2) → let a = c .before .before .before .args in take (a .n) (c .values2 .last .1 .1 .0) ≡ values (rows (a .n) (a .words .now))
+values-are c = let a = c .before .before .before .args in ap (take (a .n)) (c .values2 .ensures) ∙ values-part (a .n) (a .words .now) _
 
-abbrev μ-loop : tie.MeasureT-loop
-μ-loop ts n words i₀ i = length ts - i
+slice-aggregate-values : tie.Need-slice-aggregate-values
+slice-aggregate-values c = search needs
 
--- the turn's test is the definition's, of the element itself
-test-is : (c : tie.After-served Inv-loop μ-loop) → let s = c .before .before .before .before in let a = s .before .before .args in
-    c .served .result ≡ served? (rows (a .n) (a .words .now)) (getD (a .ts .now) (s .loop .i) (pos 0))
-unfolding served? apart
-test-is c =
-    let s = c .before .before .before .before in
-    let a = s .before .before .args in
-    c .served .ensures
-    ∙ ap (λ p. leb (p .odd) 1 || has (values (rows (a .n) (a .words .now))) (p .odd))
-    (rw (toZ-ofZ w32 _ (record { sfits = c .before .before .t .given })) at (c .before .take-apart .ensures))
+values-requires : tie.Need-values-requires
+values-requires c κs = search needs
 
-loop-holds : tie.Need-loop-holds Inv-loop μ-loop
-loop-holds c = (omega arith, refl)
+array-share-prefix-values : tie.Need-array-share-prefix-values
+array-share-prefix-values c = search needs
 
-mul-t : tie.Need-mul-t Inv-loop μ-loop
-mul-t c = search needs
+slice-aggregate-each-served : tie.Need-slice-aggregate-each-served
+slice-aggregate-each-served c =
+    let a = c .before .before .before .before .before .args in
+    sym (ap length (values-are (c .before .before)) ∙ length-values (rows (a .n) (a .words .now)) ∙ length-rows (a .n) (a .words .now))
 
-shared-slice-copy-out-t : tie.Need-shared-slice-copy-out-t Inv-loop μ-loop
-shared-slice-copy-out-t c = search needs
+each-served-requires : tie.Need-each-served-requires
+each-served-requires c κs = search needs
 
-take-apart-requires : tie.Need-take-apart-requires Inv-loop μ-loop
-take-apart-requires c κs = search needs
-
-served-requires : tie.Need-served-requires Inv-loop μ-loop
-served-requires c κs = search needs
-
-add-t12 : tie.Need-add-t12 Inv-loop μ-loop
-add-t12 c = search needs
-
-cast-t13 : tie.Need-cast-t13 Inv-loop μ-loop
-cast-t13 c = search needs
-
-returns : tie.Need-returns Inv-loop μ-loop
+returns : tie.Need-returns
 returns c =
-    let s = c .before .before .before .before .before in
-    let a = s .before .before .args in
-    sym
-    (s .loop .inv .1
-    ∙ each-hit Unserved (served? (rows (a .n) (a .words .now))) (pos 0) (1 + s .loop .i) (s .loop .i) (a .ts .now) (c .before .before .before .before .loop-test .taken)
-    (sym (test-is (c .before)) ∙ not-true _ (c .if1 .taken))
-    ∙ ap (λ k. Refused (Unserved k)) (omega arith))
-
-add-i : tie.Need-add-i Inv-loop μ-loop
-add-i c = search needs
-
-loop-less : tie.Need-loop-less Inv-loop μ-loop
-loop-less c = search needs
-
-loop-again : tie.Need-loop-again Inv-loop μ-loop
-loop-again c =
-    let s = c .before .before .before .before .before in
-    let a = s .before .before .args in (
-      omega arith,
-      s .loop .inv .1
-          ∙ each-miss Unserved (served? (rows (a .n) (a .words .now))) (pos 0) (1 + s .loop .i) (s .loop .i) (a .ts .now) (c .before .before .before .before .loop-test .taken)
-          (sym (test-is (c .before)) ∙ not-false _ (c .if1 .left))
-          ∙ ap (λ k. needEach Unserved (served? (rows (a .n) (a .words .now))) k (drop (s .loop .i + 1) (a .ts .now))) (omega arith),
-    )
-
-returns-2 : tie.Need-returns-2 Inv-loop μ-loop
-returns-2 c =
-    let a = c .before .before .before .args in
-    sym (c .before .loop .inv .1 ∙ each-end Unserved (served? (rows (a .n) (a .words .now))) (pos 0) _ (c .before .loop .i) (a .ts .now) (c .loop-test .left))
+    let a = c .before .before .before .before .before .before .args in
+    c .each-served .ensures ∙ ap (λ vals. needEach Unserved (λ _ t. served? vals t) [] (a .ts .now)) (values-are (c .before .before .before))
 
 pub all-served-spec : {M : Type 1} → statement M
 all-served-spec =
     tie.close
     (tie.spec
-    Inv-loop
-    μ-loop
-    loop-holds
-    mul-t
-    shared-slice-copy-out-t
-    take-apart-requires
-    served-requires
-    add-t12
-    cast-t13
-    returns
-    add-i
-    loop-less
-    loop-again
-    returns-2)
+    slice-aggregate-values
+    values-requires
+    array-share-prefix-values
+    slice-aggregate-each-served
+    each-served-requires
+    returns)

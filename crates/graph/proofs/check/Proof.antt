@@ -1,18 +1,18 @@
 -- `check` meets its contract: the first of six refusals. Assumes nothing.
 use mathlib.Core.Path.{_≡_, sym, _∙_}
-use mathlib.Core.Bool.{Bool, true}
+use mathlib.Core.Bool.{true}
 use mathlib.Core.List.{List, [], _∷_}
 use Prim.Native.Nat.{ℕ, _*_, _≤_}
 use borrow.Author.Needs.{needs}
 use borrow.Author.Tests.{not-true, not-false}
-use lib.Dec.{leb, leb→le}
+use lib.Dec.{leb→le}
 use lib.IntN.{ℤ}
 use lib.ListN.{length}
 use Rattle.meaning.specs.Limits.{mostRows}
 use Rattle.meaning.specs.declared.Answer.{Answer}
 use Rattle.meaning.specs.declared.Refusal.the-variants as no
 use Rattle.meaning.specs.Basics.{all}
-use Rattle.meaning.specs.Graph.{rowLength, rows}
+use Rattle.meaning.specs.Graph.{rowLength, rowTests, rows}
 use Rattle.meaning.specs.Refusals.{admitOrder, rowCount, validRows, allServed, admitted, checked, firstOf}
 use Rattle.laws.proofs.Tests.{T-of, all-of}
 use Rattle.laws.proofs.Stages.{stops, passes, last, stops-at, passes-on}
@@ -26,9 +26,6 @@ later ts n w b = validRows b (rows n w) ∷ allServed (rows n w) ts ∷ []
 
 abbrev rest : List ℤ → ℕ → List ℕ → ℕ → List Answer
 rest ts n w b = rowCount n w ∷ later ts n w b
-
-abbrev room : ℕ → List ℕ → List Bool
-room n w = leb n mostRows ∷ leb (rowLength * n) (length w) ∷ []
 
 in-order : (c : tie.After-admit) → c .admit .result ≡ firstOf (admitOrder (c .before .before .args .b) (c .before .before .args .ts .now))
 unfolding admitted
@@ -46,20 +43,20 @@ past c =
     passes-on (admitOrder (a .b) (a .ts .now)) (rest (a .ts .now) (a .n) (a .words .now) (a .b)) _ (in-order (c .before .before)) (c .enum-told .given .1)
 
 -- past the row count
-fits : (c : tie.Else1) → all (room (c .before .before .before .before .before .before .args .n) (c .before .before .before .before .before .before .args .words .now)) ≡ true
-fits c = sym (c .before .in-slice .ensures) ∙ not-false _ (c .if1 .left)
+fits : (c : tie.Else1) → all (rowTests (c .before .before .before .before .before .before .args .n) (c .before .before .before .before .before .before .args .words .now)) ≡ true
+fits c = sym (c .before .within .ensures) ∙ not-false _ (c .if1 .left)
 
-within : (c : tie.Else1) → let a = c .before .before .before .before .before .before .args in (a .n ≤ mostRows) × (rowLength * a .n ≤ length (a .words .now))
-within c =
+room : (c : tie.Else1) → let a = c .before .before .before .before .before .before .args in (a .n ≤ mostRows) × (rowLength * a .n ≤ length (a .words .now))
+room c =
     let a = c .before .before .before .before .before .before .args in
-    let p = all-of (room (a .n) (a .words .now)) (T-of (fits c)) in
+    let p = all-of (rowTests (a .n) (a .words .now)) (T-of (fits c)) in
     (leb→le _ _ (p .0), leb→le _ _ (p .1 .0))
 
 counted : (c : tie.Else1) → let a = c .before .before .before .before .before .before .args in
     checked (a .b) (a .ts .now) (a .n) (a .words .now) ≡ firstOf (later (a .ts .now) (a .n) (a .words .now) (a .b))
 counted c =
     let a = c .before .before .before .before .before .before .args in
-    past (c .before .before) ∙ passes no.RowCount (room (a .n) (a .words .now)) (later (a .ts .now) (a .n) (a .words .now) (a .b)) (fits c)
+    past (c .before .before) ∙ passes no.RowCount (rowTests (a .n) (a .words .now)) (later (a .ts .now) (a .n) (a .words .now) (a .b)) (fits c)
 
 admit-requires : tie.Need-admit-requires
 admit-requires c κs = search needs
@@ -76,16 +73,16 @@ returns c =
     let a = c .before .before .before .before .args in
     stops-at (admitOrder (a .b) (a .ts .now)) (rest (a .ts .now) (a .n) (a .words .now) (a .b)) _ _ (in-order (c .before .before)) (c .enum-told2 .given .1)
 
-in-slice-requires : tie.Need-in-slice-requires
-in-slice-requires c κs = search needs
+within-requires : tie.Need-within-requires
+within-requires c κs = search needs
 
 returns-2 : tie.Need-returns-2
 returns-2 c =
     let a = c .before .before .before .before .before .before .args in
-    sym (past (c .before .before) ∙ stops no.RowCount (room (a .n) (a .words .now)) (later (a .ts .now) (a .n) (a .words .now) (a .b)) (sym (c .before .in-slice .ensures) ∙ not-true _ (c .if1 .taken)))
+    sym (past (c .before .before) ∙ stops no.RowCount (rowTests (a .n) (a .words .now)) (later (a .ts .now) (a .n) (a .words .now) (a .b)) (sym (c .before .within .ensures) ∙ not-true _ (c .if1 .taken)))
 
 valid-rows-requires : tie.Need-valid-rows-requires
-valid-rows-requires c κs = (admits (c .before .before) .bits, within c)
+valid-rows-requires c κs = (admits (c .before .before) .bits, room c)
 
 enum-told-3 : tie.Need-enum-told-3
 enum-told-3 c = search needs
@@ -103,7 +100,7 @@ returns-3 c =
 all-served-requires : tie.Need-all-served-requires
 all-served-requires c κs =
     let e = c .before .before .before in
-    (admits (e .before .before) .list .1, within e)
+    (admits (e .before .before) .list .1, room e)
 
 returns-4 : tie.Need-returns-4
 returns-4 c =
@@ -124,7 +121,7 @@ check-spec =
     enum-told
     enum-told-2
     returns
-    in-slice-requires
+    within-requires
     returns-2
     valid-rows-requires
     enum-told-3

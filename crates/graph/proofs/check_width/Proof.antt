@@ -1,21 +1,14 @@
 -- `check_width` meets its contract: as check, then the input width. Assumes nothing.
 use mathlib.Core.Path.{_≡_, sym, _∙_}
-use mathlib.Core.Bool.{Bool}
-use mathlib.Core.List.{List, [], _∷_}
-use Prim.Native.Nat.{ℕ}
+use mathlib.Core.List.{[], _∷_}
 use borrow.Author.Needs.{needs}
 use borrow.Author.Tests.{not-true, not-false}
-use lib.Dec.{leb}
 use Rattle.meaning.specs.declared.Refusal.the-variants as no
-use Rattle.meaning.specs.Basics.{all}
+use Rattle.meaning.specs.Limits.{widthTests}
 use Rattle.meaning.specs.Refusals.{checkOrder, inputWidth, checked, sized, firstOf}
-use Rattle.laws.proofs.Tests.{pair-all}
 use Rattle.laws.proofs.Stages.{stops, passes, stops-at, passes-on}
 use Rattle.graph.proofs.check_width.Statement.{statement}
 use Rattle.graph.proofs.check_width.Tie as tie
-
-abbrev widths : ℕ → List Bool
-widths input = leb 2 input ∷ leb input 32 ∷ []
 
 in-order : (c : tie.After-check) → let a = c .before .before .args in c .check .result ≡ firstOf (checkOrder (a .b) (a .ts .now) (a .n) (a .words .now))
 unfolding checked
@@ -28,9 +21,6 @@ unfolding sized
 past c =
     let a = c .before .before .before .before .args in
     passes-on (checkOrder (a .b) (a .ts .now) (a .n) (a .words .now)) (inputWidth (a .input) ∷ []) _ (in-order (c .before .before)) (c .enum-told .given .1)
-
-test-is : (c : tie.After-within) → c .within .result ≡ all (widths (c .before .before .before .before .before .args .input))
-test-is c = let w = c .before .before .before .before .before .args .input in c .within .ensures ∙ pair-all (leb 2 w) (leb w 32)
 
 check-requires : tie.Need-check-requires
 check-requires c κs = search needs
@@ -52,12 +42,12 @@ within-requires c κs = search needs
 
 returns-2 : tie.Need-returns-2
 returns-2 c =
-    sym (past (c .before .before) ∙ stops no.Width (widths (c .before .before .before .before .before .before .args .input)) [] (sym (test-is (c .before)) ∙ not-true _ (c .if1 .taken)))
+    sym (past (c .before .before) ∙ stops no.Width (widthTests (c .before .before .before .before .before .before .args .input)) [] (sym (c .before .within .ensures) ∙ not-true _ (c .if1 .taken)))
 
 returns-3 : tie.Need-returns-3
 returns-3 c =
     c .before .before .enum-told .given .1
-    ∙ sym (past (c .before .before) ∙ passes no.Width (widths (c .before .before .before .before .before .before .args .input)) [] (sym (test-is (c .before)) ∙ not-false _ (c .if1 .left)))
+    ∙ sym (past (c .before .before) ∙ passes no.Width (widthTests (c .before .before .before .before .before .before .args .input)) [] (sym (c .before .within .ensures) ∙ not-false _ (c .if1 .left)))
 
 pub check-width-spec : {M : Type 1} → statement M
 check-width-spec =

@@ -24,7 +24,7 @@ below : (c : tie.Else1) → trailingZeros 64 (c .before .magnitude64 .result) < 
 below c = rw (count c) (zeros-low 64 (c .before .magnitude64 .result) (omega (arith, c .if1 .left)) (omega arith))
 
 -- 1 << limit
-power : (l : ℕ) → l ≤ 30 → 1 * 2 ^ l % 2 ^ 64 ≡ 2 ^ l
+power : (l : ℕ) → l ≤ 19 → 1 * 2 ^ l % 2 ^ 64 ≡ 2 ^ l
 power l h = shl-exact 1 l 64 (omega arith) (omega arith) ∙ omega arith
 
 magnitude64-requires : tie.Need-magnitude64-requires
@@ -50,7 +50,7 @@ returns-2 c =
 cast-t9 : tie.Need-cast-t9
 cast-t9 c =
     let l = c .before .before .before .args .limit in
-    omega (arith, rw (power l (c .before .before .before .pre)) at (c .if2 .left), pow-mono {i = l} {j = 30} (c .before .before .before .pre))
+    omega (arith, rw (power l (c .before .before .before .pre)) at (c .if2 .left), pow-mono {i = l} {j = 19} (c .before .before .before .pre))
 
 returns-3 : tie.Need-returns-3
 returns-3 c =

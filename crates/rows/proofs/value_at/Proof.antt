@@ -1,41 +1,31 @@
--- `value_at` meets its contract: a row's value is its last word. Assumes nothing.
+-- `value_at` meets its contract: the value of an index above 0 is that of the row before it. Assumes nothing.
 use mathlib.Core.Path.{_≡_, refl, sym, ap, _∙_}
 use mathlib.Core.List.{List}
-use Prim.Native.Nat.{ℕ, zero, suc, _*_, _-_, _≤_}
+use Prim.Native.Nat.{ℕ, zero, suc, _-_, _≤_}
 use native.Mathlib.Omega.{arith}
 use borrow.Author.Needs.{needs}
-use lib.ListN.{getD}
-use Rattle.meaning.specs.Graph.{rowLength, rows, ready}
+use Rattle.meaning.specs.Graph.{rowAfter, rows, valueAt}
 use Rattle.laws.proofs.Graphs.{value-is}
 use Rattle.rows.proofs.value_at.Statement.{statement}
 use Rattle.rows.proofs.value_at.Tie as tie
 
-last-word : (w : List ℕ) (i index : ℕ) → (index ≡ 0 → ⊥) → index ≤ i → getD w (rowLength * index - 1) 0 ≡ getD (ready (rows i w)) index 0
-last-word w i zero z h = absurd (z refl)
-last-word w i (suc k) z h = sym (value-is i w k (omega arith) ∙ ap (λ j. getD w j 0) (omega arith))
-
-input : (w : List ℕ) (i index : ℕ) → index ≡ 0 → 1 ≡ getD (ready (rows i w)) index 0
-input w i index e = rw e
+row-value : (w : List ℕ) (i index : ℕ) → (index ≡ 0 → ⊥) → index ≤ i → rowAfter w (index - 1) .value ≡ valueAt (rows i w) index
+row-value w i zero z h = absurd (z refl)
+row-value w i (suc k) z h = sym (value-is i w k (omega arith) ∙ ap (λ j. rowAfter w j .value) (omega arith))
 
 returns : tie.Need-returns
-returns c = input _ _ _ (c .if1 .taken)
+returns c = search needs
 
-mul-result : tie.Need-mul-result
-mul-result c = search needs
+sub-value-after : tie.Need-sub-value-after
+sub-value-after c = search needs
 
-sub-result : tie.Need-sub-result
-sub-result c = search needs
-
-mul-result-2 : tie.Need-mul-result-2
-mul-result-2 c = search needs
-
-shared-slice-read-result : tie.Need-shared-slice-read-result
-shared-slice-read-result c = search needs
+value-after-requires : tie.Need-value-after-requires
+value-after-requires c κs = search needs
 
 returns-2 : tie.Need-returns-2
-returns-2 c = last-word _ _ _ (c .before .if1 .left) (c .before .before .pre .0)
+returns-2 c =
+    let a = c .before .before .before in
+    c .value-after .ensures ∙ row-value (a .args .words .now) (a .args .i) (a .args .index) (c .before .if1 .left) (a .pre .0)
 
 pub value-at-spec : {M : Type 1} → statement M
-value-at-spec =
-    tie.close
-    (tie.spec returns mul-result sub-result mul-result-2 shared-slice-read-result returns-2)
+value-at-spec = tie.close (tie.spec returns sub-value-after value-after-requires returns-2)

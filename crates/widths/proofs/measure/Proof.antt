@@ -10,10 +10,10 @@ use lib.Dec.{leb}
 use lib.ListN.{length, length-map}
 use Rattle.meaning.specs.declared.Refusal.the-variants as no
 use Rattle.meaning.specs.Basics.{overAt}
-use Rattle.meaning.specs.Graph.{rows}
+use Rattle.meaning.specs.Graph.{rows, values}
 use Rattle.meaning.specs.Widths.{rowWidth, outputWidth, widths}
 use Rattle.meaning.specs.Refusals.{sizedOrder, buffer, sized, measured, widthsWritten, firstOf}
-use Rattle.laws.proofs.Graphs.{length-rows}
+use Rattle.laws.proofs.Graphs.{length-rows, length-values}
 use Rattle.laws.proofs.Stages.{stops, passes, stops-at, passes-on, refused-done, accepted-done}
 use Rattle.laws.proofs.Checked.{GoodWidth, sized-of}
 use Rattle.laws.proofs.Over.{over-part}
@@ -68,7 +68,7 @@ returns-2 c =
     (sym (past (c .before) ∙ stops no.Buffer (room (a .n + length (a .ts .now)) (length (a .out .now))) [] (rw (lt-leb _ _ (c .if1 .taken))))) refl
 
 row-widths-requires : tie.Need-row-widths-requires
-row-widths-requires c κs = let g = good (c .before .before) in ((g .width .1, g .good .room .1), omega arith)
+row-widths-requires c κs = let g = good (c .before .before) in ((g .width .1, g .good .room), omega arith)
 
 output-widths-requires : tie.Need-output-widths-requires
 output-widths-requires c κs =
@@ -85,13 +85,13 @@ returns-3 c =
     let first = second .before .before .before .before in
     let e = first .before .before in
     let a = e .before .before .before .before .before .before .args in
-    let xs = rows (a .n) (a .words .now) in
+    let xs = values (rows (a .n) (a .words .now)) in
     accepted-done _ _ _ _
     (past (e .before) ∙ passes no.Buffer (room (a .n + length (a .ts .now)) (length (a .out .now))) [] (rw (le-leb _ _ (e .if1 .left))))
     (second .output-widths .ensures
     ∙ ap (overAt (a .n) (map (outputWidth (a .input)) (a .ts .now))) (first .row-widths .ensures)
     ∙ over-part (map (rowWidth (a .input)) xs) (map (outputWidth (a .input)) (a .ts .now)) (a .out .now) (a .n)
-    (length-map xs (rowWidth (a .input)) ∙ length-rows (a .n) (a .words .now)))
+    (length-map xs (rowWidth (a .input)) ∙ length-values (rows (a .n) (a .words .now)) ∙ length-rows (a .n) (a .words .now)))
 
 pub measure-spec : {M : Type 1} → statement M
 measure-spec =

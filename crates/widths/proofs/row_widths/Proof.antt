@@ -1,74 +1,60 @@
--- `row_widths` meets its contract. The loop's invariant: the widths of the rows passed stand over the front. Assumes nothing.
-use mathlib.Core.Path.{_≡_, refl, ap, ap₂, _∙_}
+-- `row_widths` meets its contract: the rows' values are measured. Assumes nothing.
+use mathlib.Core.Path.{_≡_, sym, ap, _∙_}
 use mathlib.Core.List.{map}
-use Prim.Native.Nat.{_-_, _≤_}
 use native.Mathlib.Omega.{arith}
 use borrow.Author.Needs.{needs}
-use lib.ListN.{length, set, length-set}
+use lib.ListN.{length, take}
 use Rattle.meaning.specs.Basics.{over}
-use Rattle.meaning.specs.Graph.{rows}
+use Rattle.meaning.specs.Graph.{rows, values}
 use Rattle.meaning.specs.Widths.{rowWidth}
-use Rattle.laws.proofs.Over.{over-rows}
+use Rattle.laws.proofs.Graphs.{length-rows, length-values, values-part}
 use Rattle.widths.proofs.row_widths.Statement.{statement}
 use Rattle.widths.proofs.row_widths.Tie as tie
 
-abbrev Inv-loop : tie.InvT-loop
-Inv-loop words n input out₀ i₀ out i = (i ≤ n) × (length out ≡ length out₀) × (out ≡ over (map (rowWidth input) (rows i words)) out₀)
+values-are : (c : tie.After-values2) → let a = c .before .before .before .before .args in take (a .n) (c .values2 .last .1 .1 .0) ≡ values (rows (a .n) (a .words .now))
+values-are c = let a = c .before .before .before .before .args in ap (take (a .n)) (c .values2 .ensures) ∙ values-part (a .n) (a .words .now) _
 
-abbrev μ-loop : tie.MeasureT-loop
-μ-loop words n input out₀ i₀ out i = n - i
+count-is : (c : tie.After-values2) → let a = c .before .before .before .before .args in length (take (a .n) (c .values2 .last .1 .1 .0)) ≡ a .n
+count-is c =
+    let a = c .before .before .before .before .args in
+    ap length (values-are c) ∙ length-values (rows (a .n) (a .words .now)) ∙ length-rows (a .n) (a .words .now)
 
-loop-holds : tie.Need-loop-holds Inv-loop μ-loop
-unfolding over rows
-loop-holds c = (omega arith, refl, refl)
+slice-aggregate-values : tie.Need-slice-aggregate-values
+slice-aggregate-values c = search needs
 
-row-width-requires : tie.Need-row-width-requires Inv-loop μ-loop
-row-width-requires c κs = omega arith
+values-requires : tie.Need-values-requires
+values-requires c κs = search needs
 
-mul-out : tie.Need-mul-out Inv-loop μ-loop
-mul-out c = search needs
+array-share-prefix-values : tie.Need-array-share-prefix-values
+array-share-prefix-values c = search needs
 
-slice-write-out : tie.Need-slice-write-out Inv-loop μ-loop
-slice-write-out c = search needs
+slice-aggregate-each-width : tie.Need-slice-aggregate-each-width
+slice-aggregate-each-width c = sym (count-is (c .before .before))
 
-add-i : tie.Need-add-i Inv-loop μ-loop
-add-i c = search needs
+each-width-requires : tie.Need-each-width-requires
+each-width-requires c κs =
+    let v = c .before .before .before in
+    let s = v .before .before .before .before in
+    (s .pre .0 .0, omega (arith, count-is v, s .pre .1))
 
-loop-less : tie.Need-loop-less Inv-loop μ-loop
-loop-less c = search needs
-
-loop-again : tie.Need-loop-again Inv-loop μ-loop
-loop-again c =
-    let s = c .before .before in
-    let a = s .before .before .before .args in
-    let inv = s .loop .inv in (
-      omega arith,
-      simp length-set (inv .1),
-      ap₂ (λ l v. set l (s .loop .i) v) (inv .2) (c .row-width .ensures)
-          ∙ over-rows (rowWidth (a .input)) (a .words .now) (a .out .now) (s .loop .i) (omega arith),
-    )
-
-same-length : tie.Need-same-length Inv-loop μ-loop
+same-length : tie.Need-same-length
 same-length c = search needs
 
-returns : tie.Need-returns Inv-loop μ-loop
+returns : tie.Need-returns
 returns c =
-    let a = c .before .before .before .before .args in
-    let e : c .before .loop .i ≡ a .n = omega arith in
-    c .before .loop .inv .2 ∙ ap (λ k. over (map (rowWidth (a .input)) (rows k (a .words .now))) (a .out .now)) e
+    let w = c .before .before in
+    let v = w .before .before .before .before in
+    let a = v .before .before .before .before .args in
+    w .each-width .ensures ∙ ap (λ vals. over (map (rowWidth (a .input)) vals) (a .out .now)) (values-are v)
 
 pub row-widths-spec : {M : Type 1} → statement M
 row-widths-spec =
     tie.close
     (tie.spec
-    Inv-loop
-    μ-loop
-    loop-holds
-    row-width-requires
-    mul-out
-    slice-write-out
-    add-i
-    loop-less
-    loop-again
+    slice-aggregate-values
+    values-requires
+    array-share-prefix-values
+    slice-aggregate-each-width
+    each-width-requires
     same-length
     returns)

@@ -1,0 +1,2 @@
+-- What the code of a search works by.
+pub mod Places
