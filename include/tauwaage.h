@@ -26,6 +26,10 @@
 #ifndef TAUWAAGE_H
 #define TAUWAAGE_H
 
+#if !defined(__x86_64__) || defined(__ILP32__) || !defined(__linux__)
+#error "tauwaage: the archive is for x86-64 Linux alone; elsewhere compile with x86_64-linux-gnu-gcc, as examples/c/run does"
+#endif
+
 #include <stddef.h>
 #include <stdint.h>
 
@@ -39,6 +43,9 @@ extern "C" {
 #define TAUWAAGE_MOST_ROWS 128
 #define TAUWAAGE_MOST_READY 129
 #define TAUWAAGE_ROW_WORDS 7
+/* the words that tauwaage_apart and tauwaage_canonic write */
+#define TAUWAAGE_APART_WORDS 3
+#define TAUWAAGE_CANONIC_WORDS 2
 /* the room that tauwaage_generate asks for, in words: 128 rows */
 #define TAUWAAGE_GENERATE_WORDS 896
 /* the longest job that is not refused, and the room that tauwaage_job asks for, in bytes */
@@ -67,6 +74,18 @@ enum tauwaage_refusal {
 #define TAUWAAGE_PLACE(code) ((int)(-(code) % 1000))
 
 /* ---- the calls */
+
+/* Takes a constant apart: constant = sign * 2^shift * odd part. Writes sign (-1, 0 or 1), shift and odd part to `out`, for
+ * which TAUWAAGE_APART_WORDS words must be lent: 0, 0, 0 for zero, and -1, 31, 1 for -2147483648.
+ * Answers 3. Refusals: 4. */
+int64_t tauwaage_apart(int32_t constant, int32_t *out, size_t out_len);
+
+/* The canonic signed-digit form of a constant: digits -1, 0 and 1, of which no two nonzero ones are neighbours; a negative
+ * constant has the digits of its magnitude with their signs changed. Writes the places of the digits 1 (bit k for 2^k) and
+ * the places of the digits -1 to `out`, for which TAUWAAGE_CANONIC_WORDS words must be lent; the first word less the second
+ * is the constant.
+ * Answers the number of nonzero digits, 0 to 16. Refusals: 4. */
+int64_t tauwaage_canonic(int32_t constant, uint32_t *out, size_t out_len);
 
 /* Draws a graph for the targets. Writes its rows to `words`, for which TAUWAAGE_GENERATE_WORDS words must be lent.
  * Answers the number of rows, 0 to 128. Refusals in order: 1, 2, 3 (target), 4. */
