@@ -17,7 +17,7 @@ static uint32_t odd_part(int32_t t)
 }
 
 /* 0, or a refusal. */
-static int64_t admit(uint32_t b, const int32_t *targets, size_t count)
+static inline int64_t admit(uint32_t b, const int32_t *targets, size_t count)
 {
     if (b < 2 || b > 16)
         return refusal(1, 0);

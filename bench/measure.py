@@ -1,12 +1,11 @@
-"""Times three programs on the same jobs and prints a table: measure.py FOLDER RUNS OURS PEER NAIVE.
+"""Times three programs on the same jobs and prints a table: measure.py FOLDER RUNS RUNNER..
 
-A command is one word of this program's arguments, its own words divided by spaces. Every line is read once and its call made
-so often that a run of all lines takes about a second. A time is the best of some runs of the whole program, its start,
-reading and printing too; nothing is subtracted. It is processor time, since another process may hold the machine. The exit
-status is 0 if the answers are equal."""
+The programs are ours, peer and naive in the folder, tests/driver.c over three implementations; the runner's words stand before
+each. Every line is read once and its call made so often that a run of all lines takes about a second. A time is the best of
+some runs of the whole program, its start, reading and printing too; nothing is subtracted. It is processor time, since another
+process may hold the machine. The exit status is 0 if the answers are equal."""
 
 import os
-import shlex
 import subprocess
 import sys
 from pathlib import Path
@@ -16,29 +15,23 @@ from jobs import jobs
 SECONDS = 1.0
 
 
-def run(command, cases, answers):
-    """The seconds that one run takes."""
+def run(command, times, cases, answers):
+    """The seconds that one run takes, each call made so often."""
+    words = [*command, "--times", str(times)]
     with open(cases, "rb") as given, open(answers, "wb") as written:
-        process = subprocess.Popen(command, stdin=given, stdout=written)
+        process = subprocess.Popen(words, stdin=given, stdout=written)
         _, status, usage = os.wait4(process.pid, 0)
     process.returncode = os.waitstatus_to_exitcode(status)
     if process.returncode:
-        raise subprocess.CalledProcessError(process.returncode, command)
+        raise subprocess.CalledProcessError(process.returncode, words)
     return usage.ru_utime + usage.ru_stime
 
 
-def write(folder, name, cases, times):
-    """Each case with its call made so often."""
-    path = folder / name
-    path.write_text("".join(f"times {times} {case}\n" for case in cases))
-    return path
-
-
-def enough(folder, command, cases):
+def enough(command, cases):
     """How often the calls have to be made for a run of about a second."""
     times, took = 1, 0.0
     while took < SECONDS / 4:
-        took = run(command, write(folder, "cases", cases, times), "/dev/null")
+        took = run(command, times, cases, os.devnull)
         times *= 1 if took >= SECONDS / 4 else 4
     return max(1, round(times * SECONDS / took))
 
@@ -48,7 +41,7 @@ def same(folder, commands, cases):
     answers = []
     for place, command in enumerate(commands):
         path = folder / f"answers{place}"
-        run(command, cases, path)
+        run(command, 1, cases, path)
         answers.append(path.read_bytes())
     return all(a == answers[0] for a in answers) and answers[0].strip() and b"bad" not in answers[0]
 
@@ -58,28 +51,28 @@ def settled(times):
     return len(times) > 1 and sorted(times)[1] < 1.02 * min(times)
 
 
-def best(commands, cases, runs):
+def best(commands, times, cases, runs):
     """The programs take turns, so that a slow moment of the machine does not fall on one of them alone."""
     rounds = []
     while len(rounds) < runs or (len(rounds) < 2 * runs and not all(map(settled, zip(*rounds)))):
-        rounds.append([run(command, cases, "/dev/null") for command in commands])
-    return [min(times) for times in zip(*rounds)]
+        rounds.append([run(command, times, cases, os.devnull) for command in commands])
+    return [min(took) for took in zip(*rounds)]
 
 
-def timed(folder, runs, job, commands):
+def timed(cases, runs, job, commands):
     """Microseconds a call of each program, over calls that take the first of them about a second."""
-    times = enough(folder, commands[0], job.cases)
-    cases = write(folder, "cases", job.cases, times)
-    return [1e6 * took / (times * len(job.cases)) for took in best(commands, cases, runs)]
+    times = enough(commands[0], cases)
+    return [1e6 * took / (times * len(job.cases)) for took in best(commands, times, cases, runs)]
 
 
 def measure(folder, runs, job, ours, peer, naive):
     """The figures of ours, the peer and, where it can finish, the naive search; none where the answers differ."""
-    once = write(folder, "once", job.cases, 1)
-    if not same(folder, [ours, peer, naive] if job.naive else [ours, peer], once):
+    cases = folder / "cases"
+    cases.write_text("".join(f"{case}\n" for case in job.cases))
+    if not same(folder, [ours, peer, naive] if job.naive else [ours, peer], cases):
         return None
-    slow = timed(folder, 2, job, [naive]) if job.naive else [None]
-    return timed(folder, runs, job, [ours, peer]) + slow
+    slow = timed(cases, 2, job, [naive]) if job.naive else [None]
+    return timed(cases, runs, job, [ours, peer]) + slow
 
 
 def line(job, figures):
@@ -91,12 +84,12 @@ def line(job, figures):
 
 
 def main():
-    folder, runs = Path(sys.argv[1]), int(sys.argv[2])
-    ours, peer, naive = (shlex.split(word) for word in sys.argv[3:6])
+    folder, runs, runner = Path(sys.argv[1]), int(sys.argv[2]), sys.argv[3:]
+    programs = [[*runner, str(folder / name)] for name in ("ours", "peer", "naive")]
     print(f"{'microseconds a call':45}{'ours':>10}{'C':>10}{'ratio':>8}{'naive C':>12}{'to ours':>10}")
     equal = True
     for job in jobs():
-        figures = measure(folder, runs, job, ours, peer, naive)
+        figures = measure(folder, runs, job, *programs)
         equal = equal and figures is not None
         print(line(job, figures), flush=True)
     return 0 if equal else 1

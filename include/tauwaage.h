@@ -14,8 +14,10 @@
  * call alone: no call keeps a pointer, takes memory from the heap or has a state, so calls may run side by side. A pointer
  * is to be aligned for its type, and to as many elements as are said, of less than 2^63 bytes in all; a slice that is
  * written must not overlap another of the same call. Of a slice with no elements nothing is read or written, but the pointer
- * must not be null: any pointer to the type will do. tauwaage_generate, tauwaage_distance and tauwaage_job take 70 KB of
- * stack and a little more.
+ * must not be null: any pointer to the type will do.
+ *
+ * Stack: tauwaage_job takes up to 84 KB, tauwaage_generate 80 KB, tauwaage_distance 72 KB and every other call 4 KB
+ * (bench/stack measures it). With TAUWAAGE_STACK_BYTES free there is enough for each.
  *
  * The answer of each call is one signed 64-bit number. 0 or more is what the call says below; less than 0 is a refusal,
  * -(1000 * number + place), which TAUWAAGE_REFUSAL and TAUWAAGE_PLACE take apart. Places count from 1, are at most 129,
@@ -25,6 +27,10 @@
  */
 #ifndef TAUWAAGE_H
 #define TAUWAAGE_H
+
+#if !defined(__x86_64__) || defined(__ILP32__) || !defined(__linux__)
+#error "tauwaage: the archive is for x86-64 Linux alone; elsewhere compile with x86_64-linux-gnu-gcc, as examples/c/run does"
+#endif
 
 #include <stddef.h>
 #include <stdint.h>
@@ -39,11 +45,17 @@ extern "C" {
 #define TAUWAAGE_MOST_ROWS 128
 #define TAUWAAGE_MOST_READY 129
 #define TAUWAAGE_ROW_WORDS 7
+/* the words that tauwaage_apart and tauwaage_canonic write */
+#define TAUWAAGE_APART_WORDS 3
+#define TAUWAAGE_CANONIC_WORDS 2
 /* the room that tauwaage_generate asks for, in words: 128 rows */
 #define TAUWAAGE_GENERATE_WORDS 896
 /* the longest job that is not refused, and the room that tauwaage_job asks for, in bytes */
 #define TAUWAAGE_JOB_TEXT_BYTES 256
 #define TAUWAAGE_JOB_BYTES 24899
+
+/* the stack that no call uses up */
+#define TAUWAAGE_STACK_BYTES 98304
 
 /* ---- refusals */
 
@@ -67,6 +79,18 @@ enum tauwaage_refusal {
 #define TAUWAAGE_PLACE(code) ((int)(-(code) % 1000))
 
 /* ---- the calls */
+
+/* Takes a constant apart: constant = sign * 2^shift * odd part. Writes sign (-1, 0 or 1), shift and odd part to `out`, for
+ * which TAUWAAGE_APART_WORDS words must be lent: 0, 0, 0 for zero, and -1, 31, 1 for -2147483648.
+ * Answers 3. Refusals: 4. */
+int64_t tauwaage_apart(int32_t constant, int32_t *out, size_t out_len);
+
+/* The canonic signed-digit form of a constant: digits -1, 0 and 1, of which no two nonzero ones are neighbours; a negative
+ * constant has the digits of its magnitude with their signs changed. Writes the places of the digits 1 (bit k for 2^k) and
+ * the places of the digits -1 to `out`, for which TAUWAAGE_CANONIC_WORDS words must be lent; the first word less the second
+ * is the constant.
+ * Answers the number of nonzero digits, 0 to 16. Refusals: 4. */
+int64_t tauwaage_canonic(int32_t constant, uint32_t *out, size_t out_len);
 
 /* Draws a graph for the targets. Writes its rows to `words`, for which TAUWAAGE_GENERATE_WORDS words must be lent.
  * Answers the number of rows, 0 to 128. Refusals in order: 1, 2, 3 (target), 4. */

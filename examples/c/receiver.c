@@ -1,5 +1,5 @@
-/* A receiver's three constants through the library: a graph drawn and checked, its widths, order and products, a distance, a
- * refusal, and a whole job. examples/c/run builds and runs it; receiver.out is what it prints. */
+/* A receiver's three constants through the library: each taken apart, a graph drawn and checked, its widths, order and
+ * products, a distance, a refusal, and a whole job. examples/c/run builds and runs it; receiver.out is what it prints. */
 #include <inttypes.h>
 #include <stdio.h>
 #include <string.h>
@@ -18,6 +18,15 @@ static int64_t told(const char *call, int64_t code) {
     if (code < 0)
         printf("%s: refused=%d place=%d\n", call, TAUWAAGE_REFUSAL(code), TAUWAAGE_PLACE(code));
     return code;
+}
+
+static void take_apart(int32_t constant) {
+    int32_t parts[TAUWAAGE_APART_WORDS];
+    uint32_t digits[TAUWAAGE_CANONIC_WORDS];
+    told("apart", tauwaage_apart(constant, parts, TAUWAAGE_APART_WORDS));
+    printf("%" PRId32 ": sign %" PRId32 ", shift %" PRId32 ", odd part %" PRId32, constant, parts[0], parts[1], parts[2]);
+    int64_t nonzero = told("canonic", tauwaage_canonic(constant, digits, TAUWAAGE_CANONIC_WORDS));
+    printf("; %" PRId64 " nonzero digits, %" PRIu32 " less %" PRIu32 "\n", nonzero, digits[0], digits[1]);
 }
 
 static void print_rows(size_t rows) {
@@ -66,6 +75,8 @@ static void list_job(void) {
 int main(void) {
     static const uint32_t ready[] = {1};
     static const int32_t too_wide[] = {45, 513};
+    for (size_t i = 0; i < TARGETS; i++)
+        take_apart(targets[i]);
     int64_t rows = told("generate", tauwaage_generate(BITS, targets, TARGETS, words, TAUWAAGE_GENERATE_WORDS));
     if (rows < 0)
         return 1;

@@ -1,20 +1,22 @@
 //! The two files as they grow: cases in the format of tests/README.md, and their answers. Each kind has one method that
 //! writes a case and its answer.
 
-use crate::constants::{admit, take_apart, Refusal};
-use crate::digits::{nonzeros, prefixes};
+use crate::constants::{parts, Refusal};
+use crate::digits::canonic;
 use crate::distance::distance;
 use crate::generator::generate;
-use crate::graph::{check, flatten, row_valid, ROW};
-use crate::operation::operate;
+use crate::graph::{check, flatten, ROW};
 use crate::products::products;
 use crate::text::printed;
-use crate::widths::{bits, ranking, widths, Job};
+use crate::widths::{ranking, widths, Job};
 use std::fmt::Display;
 
 /// The most numbers of a line, and the most bytes of a job's text.
 pub const MOST_WORDS: usize = 1200;
 pub const MOST_LINE: usize = 16384;
+/// The longest lent buffer, and that of products.
+pub const MOST_ROOM: u32 = 1200;
+pub const MOST_PRODUCTS_ROOM: u32 = 64;
 
 /// What every call on a graph is given; `rows` may be more than the words hold.
 #[derive(Clone)]
@@ -62,17 +64,24 @@ pub fn escaped(text: &[u8]) -> String {
     text.iter().map(one).collect()
 }
 
-/// Number, place, and what a lent buffer holds after a call that was to fill it from the front.
-pub fn lent(room: u32, result: Result<Vec<i64>, Refusal>) -> String {
+/// What a lent buffer holds after a call that was to fill it from the front; a refusal fills nothing.
+fn filled(room: u32, result: &Result<Vec<i64>, Refusal>) -> String {
     let mut buffer: Vec<i64> = (0..room as i64).map(|i| 7000 + i).collect();
-    let (number, place) = match result {
-        Ok(answer) => {
-            buffer[..answer.len()].copy_from_slice(&answer);
-            (0, 0)
-        }
-        Err(refusal) => refusal,
-    };
-    format!("{number} {place}{}", spaced(&buffer))
+    if let Ok(answer) = result {
+        buffer[..answer.len()].copy_from_slice(answer);
+    }
+    spaced(&buffer)
+}
+
+/// Number and place.
+fn told<T>(result: &Result<T, Refusal>) -> String {
+    let (number, place) = result.as_ref().err().unwrap_or(&(0, 0));
+    format!("{number} {place}")
+}
+
+/// Number, place and buffer.
+pub fn lent(room: u32, result: Result<Vec<i64>, Refusal>) -> String {
+    told(&result) + &filled(room, &result)
 }
 
 fn signed(list: Vec<u32>) -> Vec<i64> {
@@ -103,47 +112,20 @@ impl Book {
         }
     }
 
-    pub fn apart(&mut self, class: &str, t: i32) {
-        let a = take_apart(t);
-        self.push(class, format!("apart {t}"), format!("{} {} {}", a.sign, a.shift, a.odd));
+    pub fn apart(&mut self, class: &str, t: i32, room: u32) {
+        let answer = lent(room, parts(t, room as usize));
+        self.push(class, format!("apart {t} {room}"), answer);
     }
 
-    pub fn admit(&mut self, class: &str, b: u32, targets: &[i32]) {
-        let (number, place) = admit(b, targets).err().unwrap_or((0, 0));
-        let line = format!("admit {b}{}", spaced(targets));
-        self.push(class, line, format!("{number} {place}"));
-    }
-
-    pub fn digits(&mut self, class: &str, c: u32) {
-        let list = prefixes(c);
-        let mut answer = format!("{} {}", nonzeros(c), list.len());
-        for p in list {
-            answer += &spaced(&[p.before, p.gap, p.s, p.value]);
-        }
-        self.push(class, format!("digits {c}"), answer);
-    }
-
-    pub fn operation(&mut self, class: &str, words: [u32; 6]) {
-        let [b, u, v, l1, l2, s] = words;
-        let answer = match operate(b, u, v, l1, l2, s) {
-            Some(o) => format!("1 {} {} {}", o.n, o.r, o.value),
-            None => "0".to_string(),
-        };
-        self.push(class, format!("operate{}", spaced(&words)), answer);
-    }
-
-    pub fn row(&mut self, class: &str, b: u32, i: u32, words: &[u32]) {
-        let answer = row_valid(b, i as u64, words) as u32;
-        self.push(class, format!("row {b} {i}{}", spaced(words)), answer.to_string());
-    }
-
-    pub fn bits(&mut self, class: &str, value: u32) {
-        self.push(class, format!("bits {value}"), bits(value).to_string());
+    pub fn canonic(&mut self, class: &str, t: i32, room: u32) {
+        let form = canonic(t, room as usize);
+        let count = form.map_or(String::new(), |f| format!(" {}", f.nonzero));
+        let buffer = filled(room, &form.map(|f| vec![f.plus as i64, f.minus as i64]));
+        self.push(class, format!("canonic {t} {room}"), told(&form) + &count + &buffer);
     }
 
     pub fn check(&mut self, class: &str, call: &Call) {
-        let (number, place) = call.check().err().unwrap_or((0, 0));
-        self.push(class, call.line("check"), format!("{number} {place}"));
+        self.push(class, call.line("check"), told(&call.check()));
     }
 
     pub fn products(&mut self, class: &str, call: &Call, x: i32, room: u32) {

@@ -1,20 +1,23 @@
 //! The kinds of cases. A kind is one function that pushes its cases into the book.
 
 use crate::book::Book;
+use crate::constant_cases::{kind_apart, kind_canonic};
 use crate::distance_cases::kind_distance;
 use crate::format_cases::kind_format;
 use crate::generate_cases::kind_generate;
 use crate::graph_cases::{kind_check, kind_products, kind_ranking, kind_widths};
-use crate::leaves::{kind_admit, kind_apart, kind_bits, kind_digits, kind_operation, kind_row};
+use crate::list_cases::kind_list;
+use crate::row_cases::{kind_operation, kind_row};
 use crate::text_cases::kind_text;
+use crate::width_cases::kind_width;
 
 const KINDS: [fn(&mut Book); 14] = [
     kind_apart,
-    kind_admit,
-    kind_digits,
+    kind_canonic,
+    kind_list,
     kind_operation,
     kind_row,
-    kind_bits,
+    kind_width,
     kind_check,
     kind_products,
     kind_widths,

@@ -41,6 +41,15 @@ pub fn take_apart(t: i32) -> Apart {
     Apart { sign, shift, odd: rest as u32 }
 }
 
+/// The call on one constant: sign, shift and odd part, for which three words must be lent.
+pub fn parts(t: i32, buffer_words: usize) -> Result<Vec<i64>, Refusal> {
+    if buffer_words < 3 {
+        return Err((4, 0));
+    }
+    let Apart { sign, shift, odd } = take_apart(t);
+    Ok(vec![sign as i64, shift as i64, odd as i64])
+}
+
 pub fn admit(b: u32, targets: &[i32]) -> Result<(), Refusal> {
     if !bits_in_range(b) {
         return Err((1, 0));

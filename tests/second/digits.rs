@@ -1,6 +1,6 @@
 //! The canonic signed-digit form, found by search and not by a recoding.
 
-use crate::constants::wanted;
+use crate::constants::{wanted, Refusal};
 
 /// 2^32 - 1 needs 33 digits; one more shows that length does not limit the search.
 const LONGEST: usize = 34;
@@ -45,6 +45,26 @@ pub fn denoted(digits: &[i64]) -> i64 {
 
 pub fn nonzeros(n: u32) -> u32 {
     form(n).iter().filter(|&&d| d != 0).count() as u32
+}
+
+/// The form of a constant: how many digits are nonzero, and the places of the digits 1 and -1.
+#[derive(Clone, Copy, PartialEq, Debug)]
+pub struct Canonic {
+    pub nonzero: u32,
+    pub plus: u32,
+    pub minus: u32,
+}
+
+/// The call on one constant, for which two words must be lent. Its negative has the opposite digits.
+pub fn canonic(t: i32, buffer_words: usize) -> Result<Canonic, Refusal> {
+    if buffer_words < 2 {
+        return Err((4, 0));
+    }
+    let sign = if t < 0 { -1 } else { 1 };
+    let digits: Vec<i64> = form(t.unsigned_abs()).iter().map(|d| sign * d).collect();
+    let places = |digit: i64| (0..digits.len()).filter(|&k| digits[k] == digit).map(|k| 1u32 << k).sum();
+    let nonzero = digits.iter().filter(|&&d| d != 0).count() as u32;
+    Ok(Canonic { nonzero, plus: places(1), minus: places(-1) })
 }
 
 #[derive(Clone, Copy, PartialEq, Debug)]

@@ -1,4 +1,4 @@
-//! Kind 11: distance.
+//! Cases of distance.
 
 use crate::book::{Book, MOST_WORDS};
 use crate::constants::{ceiling, limit};

@@ -1,4 +1,4 @@
-//! Kind 12: the generator.
+//! Cases of the generator.
 
 use crate::book::Book;
 use crate::digits::nonzeros;
@@ -7,7 +7,7 @@ use crate::graph::{MAX_ROWS, ROW};
 use crate::graph_cases::masks;
 use crate::rng::Rng;
 
-const ENOUGH: u32 = (MAX_ROWS * ROW) as u32;
+pub const ENOUGH: u32 = (MAX_ROWS * ROW) as u32;
 const MOST_ROOM: u32 = 1100;
 
 /// Lists that the papers speak of, at b = 8, and how many rows the rule takes for them.

@@ -1,4 +1,4 @@
-//! Kinds 7 to 10: check, products, widths and ranking.
+//! Cases of check, products, widths and ranking.
 
 use crate::book::{Book, Call};
 use crate::draw::{one_of, OUTSIDE_BITS};

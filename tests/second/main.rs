@@ -2,6 +2,8 @@
 
 mod book;
 mod cases;
+mod chains;
+mod constant_cases;
 mod constants;
 mod digits;
 mod distance;
@@ -13,19 +15,22 @@ mod generator;
 mod graph;
 mod graph_cases;
 mod jobs;
-mod leaves;
+mod list_cases;
 mod operation;
 mod papers;
 mod pool;
 mod products;
 mod rng;
+mod row_cases;
 mod selftest;
 mod selftest_cases;
+mod selftest_rows;
 mod selftest_text;
 mod text;
 mod text_cases;
 mod text_changes;
 mod text_faults;
+mod width_cases;
 mod widths;
 
 use std::io::{Read, Write};

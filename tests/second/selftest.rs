@@ -12,6 +12,7 @@ use crate::operation::{agrees, operate, shapes, Outcome};
 use crate::products::{products, row_products};
 use crate::rng::Rng;
 use crate::selftest_cases::MORE;
+use crate::selftest_rows::ROWS;
 use crate::selftest_text::TEXTS;
 use crate::widths::{bits, output_width, ranking, row_width, widths, Job};
 use std::panic::{catch_unwind, AssertUnwindSafe};
@@ -333,7 +334,7 @@ const PARTS: [(&str, fn(&mut Tally)); 14] = [
 /// Whether every check passed; a panic is one failure, so that the last line always comes.
 pub fn run() -> bool {
     let mut tally = Tally { passed: 0, failed: 0 };
-    for (name, part) in PARTS.into_iter().chain(MORE).chain(TEXTS) {
+    for (name, part) in PARTS.into_iter().chain(MORE).chain(ROWS).chain(TEXTS) {
         let ended = catch_unwind(AssertUnwindSafe(|| part(&mut tally))).is_ok();
         if !ended {
             tally.that(&format!("{name}: panicked"), false);

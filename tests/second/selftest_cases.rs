@@ -235,12 +235,10 @@ fn layouts(t: &mut Tally) {
     let one_row = "0 0 1 0 0 0 2 0 0 5 890";
     is(line(|book| book.generate("", 8, 897, &[5, 5])), "generate 8 897 5 5", one_row);
     is(line(|book| book.generate("", 8, 895, &[-5])), "generate 8 895 -5", "4 0 0 895");
-    is(line(|book| book.apart("", -20)), "apart -20", "-1 2 5");
-    is(line(|book| book.admit("", 8, &[1, -257])), "admit 8 1 -257", "3 2");
-    is(line(|book| book.digits("", 3)), "digits 3", "2 1 1 2 1 3");
-    is(line(|book| book.operation("", [8, 3, 3, 0, 4, 1])), "operate 8 3 3 0 4 1", "1 -45 0 45");
-    is(line(|book| book.row("", 8, 1, &[0; ROW])), "row 8 1 0 0 0 0 0 0 0", "0");
-    is(line(|book| book.bits("", 45)), "bits 45", "6");
+    is(line(|book| book.apart("", -20, 4)), "apart -20 4", "0 0 -1 2 5 7003");
+    is(line(|book| book.apart("", -20, 2)), "apart -20 2", "4 0 7000 7001");
+    is(line(|book| book.canonic("", -45, 3)), "canonic -45 3", "0 0 4 20 65 7002");
+    is(line(|book| book.canonic("", 45, 1)), "canonic 45 1", "4 0 7000");
     is(line(|book| book.text("", b"")), "job", "refused=12 place=1\\n");
     is(line(|book| book.text("", b"b \\\n\xff ")), "job b \\\\\\n\\xff ", "refused=12 place=1\\n");
 }

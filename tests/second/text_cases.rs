@@ -1,4 +1,4 @@
-//! Kind 13: job texts. Here those that are not malformed, and the pile of all of them.
+//! Job texts. Here those that are not malformed, and the pile of all of them.
 
 use crate::book::Book;
 use crate::digits::nonzeros;

@@ -1,4 +1,4 @@
-//! Kind 13, texts with a byte changed; many of them are still good.
+//! Job texts with a byte changed; many of them are still good.
 
 use crate::draw::one_of;
 use crate::generate_cases::mixed_lists;

@@ -1,4 +1,4 @@
-//! Kind 13, the malformed texts, each class with the line at which it is refused.
+//! The malformed job texts, each class with the line at which it is refused.
 
 use crate::book::MOST_WORDS;
 use crate::draw::one_of;

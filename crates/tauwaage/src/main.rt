@@ -1,7 +1,15 @@
 // Reads a job from standard input and prints its listing, or the line of its refusal.
+use libc::STDERR_FILENO;
 use libc::STDIN_FILENO;
 use libc::STDOUT_FILENO;
 use meaning::Printed;
+
+// A program has no exit status of its own, so what is not written is told beside it.
+fn write(bytes: &[u8]) {
+    if !io::write_all(STDOUT_FILENO, bytes) {
+        io::write_all(STDERR_FILENO, b"tauwaage: the answer cannot be written\n");
+    }
+}
 
 fn print(text: &[u8], out: &mut [u8]) {
     let printed = reply::answer(text, out);
@@ -9,7 +17,7 @@ fn print(text: &[u8], out: &mut [u8]) {
         return;
     };
     if n <= out.len() {
-        io::write_all(STDOUT_FILENO, &out[..n]);
+        write(&out[..n]);
     }
 }
 

@@ -20,14 +20,14 @@ same-length c = search needs
 returns : tie.Need-returns
 returns c = search needs
 
-slice-reshare-prefix-write-all : tie.Need-slice-reshare-prefix-write-all
-slice-reshare-prefix-write-all c = search needs
+slice-reshare-prefix-write : tie.Need-slice-reshare-prefix-write
+slice-reshare-prefix-write c = search needs
 
-slice-aggregate-write-all : tie.Need-slice-aggregate-write-all
-slice-aggregate-write-all c = sym (length-take-le _ _ (c .before .if1 .taken))
+slice-aggregate-write : tie.Need-slice-aggregate-write
+slice-aggregate-write c = sym (length-take-le _ _ (c .before .if1 .taken))
 
-write-all-requires : tie.Need-write-all-requires
-write-all-requires c κs = search needs
+write-requires : tie.Need-write-requires
+write-requires c κs = search needs
 
 same-length-2 : tie.Need-same-length-2
 same-length-2 c = search needs
@@ -50,9 +50,9 @@ print-spec =
     enum-told
     same-length
     returns
-    slice-reshare-prefix-write-all
-    slice-aggregate-write-all
-    write-all-requires
+    slice-reshare-prefix-write
+    slice-aggregate-write
+    write-requires
     same-length-2
     returns-2
     same-length-3
