@@ -168,28 +168,28 @@ index-end k i xs c h = rw (drop-of-length-le xs h)
 -- ---- a target's product
 
 -- of a target that is not zero
-pub served-index : (xs : List Row) (t : ℤ) → oddOf t % 2 ≡ 1 → T (served? (values xs) t) → Lowest (ready xs) (oddOf t) (outputIndex (values xs) (oddOf t))
+pub served-index : (vals : List ℕ) (t : ℤ) → oddOf t % 2 ≡ 1 → T (served? vals t) → Lowest (1 ∷ vals) (oddOf t) (outputIndex vals (oddOf t))
 unfolding served? outputIndex
-served-index xs t o h = go (decLe (oddOf t) 1)
+served-index vals t o h = go (decLe (oddOf t) 1)
   where
-    first : oddOf t ≡ 1 → Lowest (ready xs) (oddOf t) 0
+    first : oddOf t ≡ 1 → Lowest (1 ∷ vals) (oddOf t) 0
     first e = record { inside = omega arith; at = sym e; below = λ j k q. absurd (omega arith) }
 
-    later : (1 < oddOf t) → (i : ℕ) → Lowest (values xs) (oddOf t) i → Lowest (ready xs) (oddOf t) (suc i)
+    later : (1 < oddOf t) → (i : ℕ) → Lowest vals (oddOf t) i → Lowest (1 ∷ vals) (oddOf t) (suc i)
     later k i l =
-        record { inside = let h = l .inside in omega arith; at = l .at; below = none-below 1 (values xs) (oddOf t) i (ne-eqb 1 (oddOf t) (omega arith)) (l .below) }
+        record { inside = let h = l .inside in omega arith; at = l .at; below = none-below 1 vals (oddOf t) i (ne-eqb 1 (oddOf t) (omega arith)) (l .below) }
 
-    go : Dec (oddOf t ≤ 1) → Lowest (ready xs) (oddOf t) (cond (leb (oddOf t) 1) 0 (indexFrom 1 (values xs) (oddOf t)))
+    go : Dec (oddOf t ≤ 1) → Lowest (1 ∷ vals) (oddOf t) (cond (leb (oddOf t) 1) 0 (indexFrom 1 vals (oddOf t)))
     go (yes k) = rw (le-leb (oddOf t) 1 k) (first (omega arith))
     go (no n) =
-        let has-it = ⊎-elim (λ q. absurd (n (leb→le (oddOf t) 1 q))) (λ q. q) (either-of (leb (oddOf t) 1) (has (values xs) (oddOf t)) h) in
-        let (i, e, l) = index-is 1 (values xs) (oddOf t) has-it in
-        rw (lt-leb (oddOf t) 1 (omega arith)) (subst (Lowest (ready xs) (oddOf t)) (sym (e ∙ omega arith)) (later (omega arith) i l))
+        let has-it = ⊎-elim (λ q. absurd (n (leb→le (oddOf t) 1 q))) (λ q. q) (either-of (leb (oddOf t) 1) (has vals (oddOf t)) h) in
+        let (i, e, l) = index-is 1 vals (oddOf t) has-it in
+        rw (lt-leb (oddOf t) 1 (omega arith)) (subst (Lowest (1 ∷ vals) (oddOf t)) (sym (e ∙ omega arith)) (later (omega arith) i l))
 
 served-product : (L : ℕ) (xs : List Row) (x t : ℤ) → Sound L [] xs → T (served? (values xs) t) → oddOf t % 2 ≡ 1 → targetProduct (values xs) (products xs x) t ≡ t *ℤ x
 unfolding targetProduct apart
 served-product L xs x t g h o =
-    rw (products-are L xs x g, product-at x (ready xs) (outputIndex (values xs) (oddOf t)), served-index xs t o h .at)
+    rw (products-are L xs x g, product-at x (ready xs) (outputIndex (values xs) (oddOf t)), served-index (values xs) t o h .at)
     (ap (λ z. signOf t *ℤ z) (sym (mul-assocℤ (pos (2 ^ shiftOf t)) (pos (oddOf t)) x))
     ∙ sym (mul-assocℤ (signOf t) (pos (2 ^ shiftOf t * oddOf t)) x)
     ∙ ap (λ z. z *ℤ x) (sym (apart-whole t)))

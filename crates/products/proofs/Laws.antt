@@ -1,8 +1,8 @@
 -- What the code of the products needs of its steps. Assumes nothing.
-use mathlib.Core.Path.{_≡_, refl, sym, ap, subst⁻¹}
-use mathlib.Core.List.{List, [], _∷_, map}
+use mathlib.Core.Path.{_≡_, refl, sym, subst⁻¹}
+use mathlib.Core.List.{List, [], _∷_}
 use mathlib.Core.Bool.{Bool}
-use Prim.Native.Nat.{ℕ, zero, suc, _+_, _*_, _≤_, _<_}
+use Prim.Native.Nat.{ℕ, zero, suc, _+_, _≤_, _<_}
 use lib.Dec.{T}
 use lib.IntN.{ℤ, pos}
 use lib.ListN.{length, getD, take, set}
@@ -17,23 +17,23 @@ use Rattle.laws.proofs.Checked.{good-of}
 use Rattle.meaning.specs.declared.Answer.the-variants.{Accepted}
 use Rattle.meaning.specs.Limits.{limit}
 use Rattle.meaning.specs.Refusals.{checked}
-use Rattle.meaning.specs.Graph.{rowLength, rowAt, rows, ready, served?}
-use Rattle.meaning.specs.Products.{rowProduct, productsFrom, products, targetProduct, targetProducts}
+use Rattle.meaning.specs.Graph.{rowAfter, rows, values, ready, served?}
+use Rattle.meaning.specs.Products.{rowProduct, productsFrom, products}
 use Rattle.laws.proofs.Products.{products-more}
 use Rattle.products.specs.RowProductWorked.{worked, Within}
-use Rattle.products.specs.Worked.{Next, Graph, targetFrom}
+use Rattle.products.specs.Worked.{Next, Graph}
 
 -- ---- a row of a slice
 
 -- from the row y, the values u and v and the products p and q that code has read
-pub next-read : (w : List ℕ) (i : ℕ) (ps : List ℤ) (y : Row) (u v : ℕ) (p q : ℤ) → y ≡ rowAt w (rowLength * i)
+pub next-read : (w : List ℕ) (i : ℕ) (ps : List ℤ) (y : Row) (u v : ℕ) (p q : ℤ) → y ≡ rowAfter w i
     → u ≡ getD (ready (rows i w)) (y .u) 0 → v ≡ getD (ready (rows i w)) (y .v) 0 → p ≡ getD ps (y .u) (pos 0) → q ≡ getD ps (y .v) (pos 0)
-    → worked u v p q y ≡ rowProduct (ready (rows i w)) ps (rowAt w (rowLength * i))
+    → worked u v p q y ≡ rowProduct (ready (rows i w)) ps (rowAfter w i)
 unfolding worked rowProduct
 next-read w i ps y u v p q e a b f g = rw (a, b, f, g, e)
 
 -- and that they may be read and worked
-pub read-of : (w : List ℕ) (i : ℕ) (ps : List ℤ) (y : Row) → Next w i ps → y ≡ rowAt w (rowLength * i)
+pub read-of : (w : List ℕ) (i : ℕ) (ps : List ℤ) (y : Row) → Next w i ps → y ≡ rowAfter w i
     → (y .u ≤ i) × (y .v ≤ i) × Within (getD ps (y .u) (pos 0)) (getD ps (y .v) (pos 0)) y
 read-of w i ps y h e =
     subst⁻¹ (λ z. (z .u ≤ i) × (z .v ≤ i) × Within (getD ps (z .u) (pos 0)) (getD ps (z .v) (pos 0)) z) e (h .first, h .second, h .within)
@@ -46,7 +46,7 @@ fill-start w x rest = refl
 
 -- a turn stores the next row's product
 pub fill-more : (w : List ℕ) (x : ℤ) (i : ℕ) (made : List ℤ) (p : ℤ) → i + 1 < length made → take (i + 1) made ≡ products (rows i w) x
-    → p ≡ rowProduct (ready (rows i w)) (take (i + 1) made) (rowAt w (rowLength * i)) → take (i + 1 + 1) (set made (i + 1) p) ≡ products (rows (i + 1) w) x
+    → p ≡ rowProduct (ready (rows i w)) (take (i + 1) made) (rowAfter w i) → take (i + 1 + 1) (set made (i + 1) p) ≡ products (rows (i + 1) w) x
 fill-more w x i made p h e f =
     rw (add-one (i + 1), take-suc-set made (i + 1) p h, f, e, add-one i) (sym (products-more i w x))
 
@@ -71,10 +71,5 @@ graph-of b ts n w e =
       sound = g .sound;
     }
 
-pub all-served : (b : ℕ) (ts : List ℤ) (n : ℕ) (w : List ℕ) → checked b ts n w ≡ Accepted → T (every (served? (rows n w)) ts)
-all-served b ts n w e = in-every (served? (rows n w)) ts (good-of b ts n w e .serves)
-
--- the targets' products, from the products by index
-pub targets-are : (xs : List Row) (ps : List ℤ) (x : ℤ) (ts : List ℤ) → ps ≡ products xs x → map (targetFrom xs ps) ts ≡ targetProducts xs x ts
-unfolding targetFrom targetProduct targetProducts
-targets-are xs ps x ts e = ap (λ qs. map (targetFrom xs qs) ts) e
+pub all-served : (b : ℕ) (ts : List ℤ) (n : ℕ) (w : List ℕ) → checked b ts n w ≡ Accepted → T (every (served? (values (rows n w))) ts)
+all-served b ts n w e = in-every (served? (values (rows n w))) ts (good-of b ts n w e .serves)

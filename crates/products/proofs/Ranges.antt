@@ -1,26 +1,26 @@
 -- The products of valid rows stay within 64 bits for every x of 32: a row's terms by the bounds of a valid row, a target's because it is the target
 -- times x. Assumes nothing.
-use mathlib.Core.Path.{_≡_, refl, sym, ap, _∙_}
-use mathlib.Core.List.{List, map}
+use mathlib.Core.Path.{_≡_, refl, sym, ap, ap₂, _∙_}
+use mathlib.Core.Bool.{Bool, true, false, cond}
+use mathlib.Core.List.{List, _∷_, map}
 use Prim.Native.Nat.{ℕ, zero, suc, _*_, _%_, _^_, _≤_, _<_}
 use native.Mathlib.Nat.{mul-assoc, mul-comm, mul-le-mul, one-mul, le-refl, le-of-lt, le-trans, le-of-eq, le-of-suc-le-suc}
 use native.Mathlib.Omega.{arith}
-use lib.Dec.{T}
+use lib.Dec.{T, leb}
 use lib.IntN.{ℤ, pos, negsuc, natAbs, _*ℤ_}
 use lib.ListN.{length, getD, length-map}
 use lib.Pow.{pow-mono}
 use mir.Syntax.{w32}
 use mir.Val.{SFits}
 use Rattle.laws.proofs.Integers.{abs-mul}
-use Rattle.meaning.specs.declared.Row.{Row}
-use Rattle.meaning.specs.Basics.{zerosIn, zeros}
+use Rattle.meaning.specs.Basics.{indexFrom, zerosIn, zeros}
 use Rattle.meaning.specs.Constants.{signOf, shiftOf, oddOf}
-use Rattle.meaning.specs.Graph.{rowLength, rowAt, rows, ready, served?, outputIndex}
+use Rattle.meaning.specs.Graph.{rowAfter, rows, values, ready, served?, outputIndex}
 use Rattle.meaning.specs.Products.{products}
 use Rattle.laws.proofs.Zeros.{zeros-whole, zeros-left, zeros-low}
-use Rattle.laws.proofs.Graphs.{length-ready}
-use Rattle.laws.proofs.Products.{product-at, products-are, sound-at, odds-ready, fits-low, index-inside, served-index}
-use Rattle.products.specs.Worked.{Next, Graph}
+use Rattle.laws.proofs.Graphs.{length-ready, sound-at}
+use Rattle.laws.proofs.Products.{product-at, products-are, odds-ready, fits-low, index-inside, served-index}
+use Rattle.products.specs.Worked.{Next, Graph, Made}
 
 pub abs-32 : (x : ℤ) → SFits w32 x → natAbs x ≤ 2 ^ 31
 abs-32 (pos n) h = omega arith
@@ -47,17 +47,21 @@ shift-low (pos (suc n)) h = le-of-suc-le-suc (zeros-low 32 (suc n) (omega arith)
 shift-low (negsuc n) h = le-of-suc-le-suc (zeros-low 32 (suc n) (omega arith) (omega arith))
 
 -- a target's index has a product, which its shift leaves within 64 bits
-pub record Reached (xs : List Row) (ps : List ℤ) (t : ℤ) : Type 0 where
-  pub inside : outputIndex xs t < length ps
-  pub low : 2 ^ shiftOf t * natAbs (getD ps (outputIndex xs t) (pos 0)) ≤ 2 ^ 62
+pub record Reached (vals : List ℕ) (ps : List ℤ) (t : ℤ) : Type 0 where
+  pub inside : outputIndex vals (oddOf t) < length ps
+  pub low : 2 ^ shiftOf t * natAbs (getD ps (outputIndex vals (oddOf t)) (pos 0)) ≤ 2 ^ 62
 
 -- a · |u x| is at most m · 2^31 where a · u is at most m
 scaled-low : (a u m : ℕ) (x : ℤ) → a * u ≤ m → natAbs x ≤ 2 ^ 31 → a * natAbs (pos u *ℤ x) ≤ m * 2 ^ 31
 scaled-low a u m x h k = rw (abs-mul (pos u) x) (le-trans (le-of-eq (sym (mul-assoc a u (natAbs x)))) (mul-le-mul h k))
 
-output-inside : (xs : List Row) (t : ℤ) → outputIndex xs t < length (ready xs)
+output-inside : (vals : List ℕ) (odd : ℕ) → outputIndex vals odd < suc (length vals)
 unfolding outputIndex
-output-inside xs t = omega (arith, index-inside 0 (ready xs) (oddOf t) (omega arith))
+output-inside vals odd = go (leb odd 1)
+  where
+    go : (b : Bool) → cond b 0 (indexFrom 1 vals odd) < suc (length vals)
+    go true = omega arith
+    go false = omega (arith, index-inside 1 vals odd (omega arith))
 
 no-zeros : shiftOf (pos 0) ≡ 0
 unfolding zeros zerosIn
@@ -71,9 +75,9 @@ module _ (n : ℕ) (w : List ℕ) (g : Graph n w) (x : ℤ) (low : natAbs x ≤ 
   pub next-of : (i : ℕ) (ps : List ℤ) → i < n → ps ≡ products (rows i w) x → Next w i ps
   next-of i ps h e =
       let vals = ready (rows i w) in
-      let y = rowAt w (rowLength * i) in
+      let y = rowAfter w i in
       let (s, f) = sound-at (g .limit) n w i (g .sound) h in
-      let l = fits-low (g .limit) vals y (odds-ready (g .limit) (rows i w) (g .least) s) f in
+      let l = fits-low (g .limit) (rows i w) y (odds-ready (g .limit) (rows i w) (g .least) s) f in
       let d : ps ≡ map (λ v. pos v *ℤ x) vals = e ∙ products-are (g .limit) (rows i w) x s in
       let at : (k : ℕ) → getD ps k (pos 0) ≡ pos (getD vals k 0) *ℤ x = λ k. ap (λ qs. getD qs k (pos 0)) d ∙ product-at x vals k in
       record {
@@ -91,28 +95,37 @@ module _ (n : ℕ) (w : List ℕ) (g : Graph n w) (x : ℤ) (low : natAbs x ≤ 
             };
       }
 
-  abbrev value : ℤ → ℕ
-  value t = getD (ready (rows n w)) (outputIndex (rows n w) t) 0
+-- the index of zero is the input's
+zero-index : (vals : List ℕ) → outputIndex vals (oddOf (pos 0)) ≡ 0
+unfolding outputIndex zeros zerosIn
+zero-index vals = refl
 
-  -- zero's shift is 0 and its index has a value; any other target's index has its odd part
-  nonzero-low : (t : ℤ) → SFits w32 t → T (served? (rows n w) t) → oddOf t % 2 ≡ 1 → 2 ^ shiftOf t * value t ≤ 2 ^ 31
+module _ (vals : List ℕ) where
+  abbrev value : ℤ → ℕ
+  value t = getD (1 ∷ vals) (outputIndex vals (oddOf t)) 0
+
+  -- any other target's index has its odd part
+  nonzero-low : (t : ℤ) → SFits w32 t → T (served? vals t) → oddOf t % 2 ≡ 1 → 2 ^ shiftOf t * value t ≤ 2 ^ 31
   nonzero-low t k h o =
-      rw (served-index (rows n w) t o h .at)
+      rw (served-index vals t o h .at)
       (le-trans (le-of-eq (mul-comm (2 ^ shiftOf t) (oddOf t) ∙ zeros-whole (natAbs t))) (abs-32 t k))
 
-  value-low : (t : ℤ) → SFits w32 t → T (served? (rows n w) t) → 2 ^ shiftOf t * value t ≤ 2 ^ 31
+  value-low : (t : ℤ) → SFits w32 t → T (served? vals t) → 2 ^ shiftOf t * value t ≤ 2 ^ 31
   value-low (pos zero) k h =
-      let v = odds-ready (g .limit) (rows n w) (g .least) (g .sound) (outputIndex (rows n w) (pos 0)) (output-inside (rows n w) (pos 0)) .1 in
-      rw no-zeros (omega (arith, v, pow-mono {i = g .limit} {j = 19} (g .most)))
+      let e : 2 ^ shiftOf (pos 0) * value (pos 0) ≡ 1 = ap₂ (λ k i. 2 ^ k * getD (1 ∷ vals) i 0) no-zeros (zero-index vals) in
+      omega arith
   value-low (pos (suc m)) k h = nonzero-low (pos (suc m)) k h (zeros-left (suc m) (omega arith))
   value-low (negsuc m) k h = nonzero-low (negsuc m) k h (zeros-left (suc m) (omega arith))
 
-  pub reached-of : (ps : List ℤ) (t : ℤ) → SFits w32 t → T (served? (rows n w) t) → ps ≡ products (rows n w) x → Reached (rows n w) ps t
-  reached-of ps t k h e =
-      let vals = ready (rows n w) in
-      let d : ps ≡ map (λ v. pos v *ℤ x) vals = e ∙ products-are (g .limit) (rows n w) x (g .sound) in
-      let at = ap (λ qs. getD qs (outputIndex (rows n w) t) (pos 0)) d ∙ product-at x vals (outputIndex (rows n w) t) in
+  pub reached-of : (ps : List ℤ) (t : ℤ) → SFits w32 t → T (served? vals t) → Made vals ps → Reached vals ps t
+  reached-of ps t k h m =
+      let i = outputIndex vals (oddOf t) in
+      let at = ap (λ qs. getD qs i (pos 0)) (m .are) ∙ product-at (m .x) (1 ∷ vals) i in
       record {
-        inside = rw (ap length d, length-map vals (λ v. pos v *ℤ x)) (output-inside (rows n w) t);
-        low = rw at (scaled-low (2 ^ shiftOf t) (value t) (2 ^ 31) x (value-low t k h) low);
+        inside = rw (ap length (m .are), length-map (1 ∷ vals) (λ v. pos v *ℤ m .x)) (output-inside vals (oddOf t));
+        low = rw at (scaled-low (2 ^ shiftOf t) (value t) (2 ^ 31) (m .x) (value-low t k h) (m .small));
       }
+
+-- the products of valid rows are made
+pub made-of : (n : ℕ) (w : List ℕ) → Graph n w → (x : ℤ) → natAbs x ≤ 2 ^ 31 → (ps : List ℤ) → ps ≡ products (rows n w) x → Made (values (rows n w)) ps
+made-of n w g x low ps e = record { x = x; small = low; are = e ∙ products-are (g .limit) (rows n w) x (g .sound) }

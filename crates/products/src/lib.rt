@@ -2,26 +2,27 @@
 mod row_product;
 
 use meaning::Answer;
-use meaning::ROW_LENGTH;
+use meaning::MOST_READY;
+use meaning::MOST_ROWS;
 use meaning::Refusal;
 ghost use mathlib.Core.Path.{_≡_};
 ghost use mathlib.Core.List.{map};
-ghost use Prim.Native.Nat.{_+_, _*_, _≤_};
+ghost use Prim.Native.Nat.{_+_, _≤_};
 ghost use lib.Dec.{T};
 ghost use lib.ListN.{length, take};
 ghost use Rattle.meaning.specs.declared.Answer.the-variants.{Accepted};
 ghost use Rattle.meaning.specs.Basics.{every, over};
-ghost use Rattle.meaning.specs.Graph.{rowLength, rowAt, rows, ready, served?};
-ghost use Rattle.meaning.specs.Products.{rowProduct, products, targetProducts};
+ghost use Rattle.meaning.specs.Graph.{rowAfter, rows, values as Graph·values, ready, served?};
+ghost use Rattle.meaning.specs.Products.{rowProduct, products, targetProduct, targetProducts};
 ghost use Rattle.meaning.specs.Refusals.{Done, checked, multiplied, productsWritten};
-ghost use Rattle.products.specs.Worked.{Next, Graph, Made, targetFrom};
+ghost use Rattle.products.specs.Worked.{Next, Graph, Made, Targets};
 
 // The product of the row after i rows, from the products of the indices before it.
 fn next_product(words: &[u32], i: usize, before: &[i64]) -> i64
     requires { ⌜ Next (now words) i (now before) ⌝ }
-    ensures { λ r. ⌜ r ≡ rowProduct (ready (rows i (now (words .entry)))) (now (before .entry)) (rowAt (now (words .entry)) (rowLength * i)) ⌝ }
+    ensures { λ r. ⌜ r ≡ rowProduct (ready (rows i (now (words .entry)))) (now (before .entry)) (rowAfter (now (words .entry)) i) ⌝ }
 {
-    let x = rows::row_at(words, ROW_LENGTH * i);
+    let x = rows::row_after(words, i);
     let first = x.u as usize;
     let second = x.v as usize;
     let u = rows::value_at(words, i, first);
@@ -32,11 +33,11 @@ fn next_product(words: &[u32], i: usize, before: &[i64]) -> i64
 }
 
 // The products by index; the input's is x.
-fn products_of(n: usize, words: &[u32], x: i32) -> [i64; 129]
+fn products_of(n: usize, words: &[u32], x: i32) -> [i64; MOST_READY]
     requires { ⌜ Graph n (now words) ⌝ }
     ensures { λ r. ⌜ take (n + 1) r ≡ products (rows n (now (words .entry))) x ⌝ }
 {
-    let mut made = [0i64; 129];
+    let mut made = [0i64; MOST_READY];
     made[0] = x as i64;
     let mut i = 0;
     while i < n {
@@ -46,28 +47,38 @@ fn products_of(n: usize, words: &[u32], x: i32) -> [i64; 129]
     made
 }
 
-// A target's product, from the products by index: sign × 2^shift × its index's.
-fn target_product(n: usize, words: &[u32], made: &[i64], t: i32) -> i64
-    requires { ⌜ Made n (now words) (now made) × T (served? (rows n (now words)) t) ⌝ }
-    ensures { λ r. ⌜ r ≡ targetFrom (rows n (now (words .entry))) (now (made .entry)) t ⌝ }
+// A target's product, from the rows' values and the products by index: sign × 2^shift × its index's.
+fn target_product(values: &[u32], made: &[i64], t: i32) -> i64
+    requires { ⌜ Made (now values) (now made) × T (served? (now values) t) ⌝ }
+    ensures { λ r. ⌜ r ≡ targetProduct (now (values .entry)) (now (made .entry)) t ⌝ }
 {
     let parts = constants::take_apart(t);
-    let index = rows::lowest(n, words, parts.odd);
+    let index = rows::output_index(values, parts.odd);
     let p = made[index];
     (parts.sign as i64) * row_product::shifted(p, parts.shift)
 }
 
 // The targets' products, from the front of a lent slice.
-fn write_targets(ts: &[i32], n: usize, words: &[u32], made: &[i64], out: &mut [i64])
-    requires { ⌜ (length (now ts) ≤ length (now out)) × Made n (now words) (now made) × T (every (served? (rows n (now words))) (now ts)) ⌝ }
-    ensures { λ _. ⌜ now (out .exit) ≡ over (map (targetFrom (rows n (now (words .entry))) (now (made .entry))) (now (ts .entry))) (now (out .entry)) ⌝ }
+fn write_targets(ts: &[i32], values: &[u32], made: &[i64], out: &mut [i64])
+    requires { ⌜ (length (now ts) ≤ length (now out)) × Made (now values) (now made) × T (every (served? (now values)) (now ts)) ⌝ }
+    ensures { λ _. ⌜ now (out .exit) ≡ over (map (targetProduct (now (values .entry)) (now (made .entry))) (now (ts .entry))) (now (out .entry)) ⌝ }
 {
     let mut k = 0;
     while k < ts.len() {
         let t = ts[k];
-        out[k] = target_product(n, words, made, t);
+        out[k] = target_product(values, made, t);
         k += 1;
     }
+}
+
+// The same by the rows in a slice.
+fn target_products(ts: &[i32], n: usize, words: &[u32], made: &[i64], out: &mut [i64])
+    requires { ⌜ Targets (now ts) n (now words) (now made) (now out) ⌝ }
+    ensures { λ _. ⌜ now (out .exit) ≡ over (map (targetProduct (Graph·values (rows n (now (words .entry)))) (now (made .entry))) (now (ts .entry))) (now (out .entry)) ⌝ }
+{
+    let mut values = [0u32; MOST_ROWS];
+    rows::values(n, words, &mut values);
+    write_targets(ts, &values[..n], made, out);
 }
 
 // The targets' products of a graph that the check accepts under the bit limit b, written from the front of `out`.
@@ -76,7 +87,7 @@ fn work(b: u32, ts: &[i32], n: usize, words: &[u32], x: i32, out: &mut [i64])
     ensures { λ _. ⌜ now (out .exit) ≡ over (targetProducts (rows n (now (words .entry))) x (now (ts .entry))) (now (out .entry)) ⌝ }
 {
     let made = products_of(n, words, x);
-    write_targets(ts, n, words, &made[..n + 1], out);
+    target_products(ts, n, words, &made[..n + 1], out);
 }
 
 // A product for each target. Refusals as check, then 4.

@@ -14,24 +14,21 @@ use Rattle.products.proofs.next_product.Statement.{statement}
 use Rattle.products.proofs.next_product.Tie as tie
 
 -- what is known of the row that was read
-known : (c : tie.After-row-at) → let s = c .before .before .args in let y = c .row-at .result in
+known : (c : tie.After-row-after) → let s = c .before .before .args in let y = c .row-after .result in
     (y .u ≤ s .i) × (y .v ≤ s .i) × Within (getD (s .before .now) (y .u) (pos 0)) (getD (s .before .now) (y .v) (pos 0)) y
-known c = read-of _ _ _ _ (c .before .before .pre) (c .row-at .ensures)
+known c = read-of _ _ _ _ (c .before .before .pre) (c .row-after .ensures)
 
-p-is : (c : tie.After-p) → let y = c .before .before .before .before .before .row-at .result in let z = getD (c .before .before .before .before .before .before .before .args .before .now) (y .u) (pos 0) in toZ w64 (ofZ w64 z) ≡ z
+p-is : (c : tie.After-p) → let y = c .before .before .before .before .before .row-after .result in let z = getD (c .before .before .before .before .before .before .before .args .before .now) (y .u) (pos 0) in toZ w64 (ofZ w64 z) ≡ z
 p-is c = toZ-ofZ w64 _ (record { sfits = c .p .given })
 
-q-is : (c : tie.After-q) → let y = c .before .before .before .before .before .before .row-at .result in let z = getD (c .before .before .before .before .before .before .before .before .args .before .now) (y .v) (pos 0) in toZ w64 (ofZ w64 z) ≡ z
+q-is : (c : tie.After-q) → let y = c .before .before .before .before .before .before .row-after .result in let z = getD (c .before .before .before .before .before .before .before .before .args .before .now) (y .v) (pos 0) in toZ w64 (ofZ w64 z) ≡ z
 q-is c = toZ-ofZ w64 _ (record { sfits = c .q .given })
 
 fit : (c : tie.After-row-product) → SFits w64 (c .row-product .result)
 fit c = search needs
 
-mul-row-at : tie.Need-mul-row-at
-mul-row-at c = search needs
-
-row-at-requires : tie.Need-row-at-requires
-row-at-requires c κs = search needs
+row-after-requires : tie.Need-row-after-requires
+row-after-requires c κs = search needs
 
 cast-first : tie.Need-cast-first
 cast-first c = search needs
@@ -60,7 +57,7 @@ shared-slice-copy-out-q c = let h = known (c .before .before .before .before .be
 row-product-requires : tie.Need-row-product-requires
 row-product-requires c κs =
     let r = c .before .before .before .before .before .before in
-    subst₂ (λ p q. Within p q (r .row-at .result)) (sym (p-is (c .before))) (sym (q-is c)) (known r .2)
+    subst₂ (λ p q. Within p q (r .row-after .result)) (sym (p-is (c .before))) (sym (q-is c)) (known r .2)
 
 returns : tie.Need-returns
 returns c =
@@ -68,14 +65,13 @@ returns c =
     let r = v .before .before .before .before in
     toZ-ofZ w64 _ (fit c)
     ∙ c .row-product .ensures
-    ∙ next-read _ _ _ (r .row-at .result) _ _ _ _ (r .row-at .ensures) (v .before .value-at .ensures) (v .value-at2 .ensures) (p-is (c .before .before)) (q-is (c .before))
+    ∙ next-read _ _ _ (r .row-after .result) _ _ _ _ (r .row-after .ensures) (v .before .value-at .ensures) (v .value-at2 .ensures) (p-is (c .before .before)) (q-is (c .before))
 
 pub next-product-spec : {M : Type 1} → statement M
 next-product-spec =
     tie.close
     (tie.spec
-    mul-row-at
-    row-at-requires
+    row-after-requires
     cast-first
     cast-second
     value-at-requires

@@ -10,17 +10,16 @@ use mir.Val.{SFits, toZ, ofZ}
 use mir.ValLaws.{toZ-ofZ}
 use Rattle.laws.proofs.Integers.{abs-mul, abs-fits}
 use Rattle.laws.proofs.Signed.{wide}
-use Rattle.meaning.specs.Basics.{indexFrom}
-use Rattle.meaning.specs.Constants.{signOf, shiftOf, apart}
-use Rattle.meaning.specs.Graph.{rows, ready, outputIndex}
-use Rattle.products.specs.Worked.{targetFrom}
+use Rattle.meaning.specs.Constants.{signOf, shiftOf, oddOf, apart}
+use Rattle.meaning.specs.Graph.{outputIndex}
+use Rattle.meaning.specs.Products.{targetProduct}
 use Rattle.products.proofs.Ranges.{Reached, reached-of, sign-fits, signed-low, shift-low}
 use Rattle.products.proofs.target_product.Statement.{statement}
 use Rattle.products.proofs.target_product.Tie as tie
 
 -- what the requirement says of the target's index
-reached : (c : tie.Start) → let s = c .args in Reached (rows (s .n) (s .words .now)) (s .made .now) (s .t)
-reached c = let m = c .pre .0 in reached-of _ _ (m .graph) (m .x) (m .small) _ _ (c .fits .t) (c .pre .1) (m .are)
+reached : (c : tie.Start) → let s = c .args in Reached (s .values .now) (s .made .now) (s .t)
+reached c = reached-of _ _ _ (c .fits .t) (c .pre .1) (c .pre .0)
 
 -- the parts of the target itself
 parts-are : (c : tie.After-take-apart) → c .take-apart .result ≡ apart (c .before .before .args .t)
@@ -34,19 +33,17 @@ shift-is : (c : tie.After-take-apart) → c .take-apart .result .shift ≡ shift
 unfolding apart
 shift-is c = ap (λ p. p .shift) (parts-are c)
 
-at-is : (c : tie.After-lowest) → let s = c .before .before .before .args in c .lowest .result ≡ outputIndex (rows (s .n) (s .words .now)) (s .t)
-unfolding apart outputIndex
-at-is c =
-    let s = c .before .before .before .args in
-    c .lowest .ensures ∙ ap (λ p. indexFrom 0 (ready (rows (s .n) (s .words .now))) (p .odd)) (parts-are (c .before))
+at-is : (c : tie.After-output-index) → let s = c .before .before .before .args in c .output-index .result ≡ outputIndex (s .values .now) (oddOf (s .t))
+unfolding apart
+at-is c = let s = c .before .before .before .args in c .output-index .ensures ∙ ap (λ p. outputIndex (s .values .now) (p .odd)) (parts-are (c .before))
 
 -- the product at that index
-p-is : (c : tie.After-p) → let z = getD (c .before .before .before .before .args .made .now) (c .before .lowest .result) (pos 0) in toZ w64 (ofZ w64 z) ≡ z
+p-is : (c : tie.After-p) → let z = getD (c .before .before .before .before .args .made .now) (c .before .output-index .result) (pos 0) in toZ w64 (ofZ w64 z) ≡ z
 p-is c = toZ-ofZ w64 _ (record { sfits = c .p .given })
 
 -- 2^shift times it
 scaled-is : (c : tie.After-shifted) → let s = c .before .before .before .before .before .before .before .args in
-    c .shifted .result ≡ pos (2 ^ shiftOf (s .t)) *ℤ getD (s .made .now) (outputIndex (rows (s .n) (s .words .now)) (s .t)) (pos 0)
+    c .shifted .result ≡ pos (2 ^ shiftOf (s .t)) *ℤ getD (s .made .now) (outputIndex (s .values .now) (oddOf (s .t))) (pos 0)
 scaled-is c =
     let p = c .before .before .before in
     rw (p-is p, shift-is (p .before .before), at-is (p .before)) at (c .shifted .ensures)
@@ -70,8 +67,8 @@ product-fits c =
 take-apart-requires : tie.Need-take-apart-requires
 take-apart-requires c κs = search needs
 
-lowest-requires : tie.Need-lowest-requires
-lowest-requires c κs = search needs
+output-index-requires : tie.Need-output-index-requires
+output-index-requires c κs = search needs
 
 shared-slice-copy-out-p : tie.Need-shared-slice-copy-out-p
 shared-slice-copy-out-p c = rw (at-is c) (reached (c .before .before .before) .inside)
@@ -94,7 +91,7 @@ mul-result c =
     rw (read-sign a, toZ-ofZ w64 _ (wide _ (sign-fits (a .before .before .args .t))), toZ-ofZ w64 _ (fit c)) (product-fits c)
 
 returns : tie.Need-returns
-unfolding targetFrom
+unfolding targetProduct
 returns c =
     let a = c .before .before .before .before .before in
     rw (read-sign a, toZ-ofZ w64 _ (wide _ (sign-fits (a .before .before .args .t))), toZ-ofZ w64 _ (fit c), toZ-ofZ w64 _ (product-fits c), scaled-is c)
@@ -104,7 +101,7 @@ target-product-spec =
     tie.close
     (tie.spec
     take-apart-requires
-    lowest-requires
+    output-index-requires
     mul-p
     shared-slice-copy-out-p
     cast-result

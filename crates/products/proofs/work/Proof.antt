@@ -1,5 +1,6 @@
 -- `work` meets its contract. Assumes nothing.
 use mathlib.Core.Path.{_≡_, sym, ap, _∙_}
+use mathlib.Core.List.{map}
 use Prim.Native.Nat.{_+_}
 use native.Mathlib.Omega.{arith}
 use borrow.Author.Needs.{needs}
@@ -8,11 +9,11 @@ use lib.Seq.{length-take-le}
 use mir.Syntax.{w32}
 use mir.ValLaws.{toZ-ofZ}
 use Rattle.meaning.specs.Basics.{over}
-use Rattle.meaning.specs.Graph.{rows}
-use Rattle.meaning.specs.Products.{products}
+use Rattle.meaning.specs.Graph.{rows, values}
+use Rattle.meaning.specs.Products.{products, targetProduct, targetProducts}
 use Rattle.products.specs.Worked.{Graph}
-use Rattle.products.proofs.Laws.{graph-of, all-served, targets-are}
-use Rattle.products.proofs.Ranges.{abs-32}
+use Rattle.products.proofs.Laws.{graph-of, all-served}
+use Rattle.products.proofs.Ranges.{abs-32, made-of}
 use Rattle.products.proofs.work.Statement.{statement}
 use Rattle.products.proofs.work.Tie as tie
 
@@ -35,27 +36,32 @@ add-made c = omega (arith, graph (c .before .before) .few)
 array-share-prefix-made : tie.Need-array-share-prefix-made
 array-share-prefix-made c = omega (arith, graph (c .before .before) .few, full c)
 
-slice-aggregate-write-targets : tie.Need-slice-aggregate-write-targets
-slice-aggregate-write-targets c =
+slice-aggregate-target-products : tie.Need-slice-aggregate-target-products
+slice-aggregate-target-products c =
     let s = c .before .before .before in
     sym (length-take-le (s .args .n + 1) (c .before .products-of .result) (omega (arith, graph s .few, full (c .before))))
 
-write-targets-requires : tie.Need-write-targets-requires
-write-targets-requires c κs =
-    let s = c .before .before .before .before in (
-      s .pre .1,
-      record { graph = graph s; x = s .args .x; small = abs-32 _ (s .fits .x); are = made-are (c .before .before) },
-      all-served (s .args .b) _ _ _ (s .pre .0),
-    )
+target-products-requires : tie.Need-target-products-requires
+target-products-requires c κs =
+    let s = c .before .before .before .before in
+    let g = graph s in
+    record {
+      few = g .few;
+      room = g .room;
+      places = s .pre .1;
+      made = made-of (s .args .n) (s .args .words .now) g (s .args .x) (abs-32 _ (s .fits .x)) _ (made-are (c .before .before));
+      served = all-served (s .args .b) _ _ _ (s .pre .0);
+    }
 
 same-length : tie.Need-same-length
 same-length c = search needs
 
 returns : tie.Need-returns
+unfolding targetProducts
 returns c =
     let s = c .before .before .before .before .before .before .args in
-    c .before .write-targets .ensures
-    ∙ ap (λ l. over l (s .out .now)) (targets-are (rows (s .n) (s .words .now)) _ (s .x) (s .ts .now) (made-are (c .before .before .before .before)))
+    c .before .target-products .ensures
+    ∙ ap (λ ps. over (map (targetProduct (values (rows (s .n) (s .words .now))) ps) (s .ts .now)) (s .out .now)) (made-are (c .before .before .before .before))
 
 pub work-spec : {M : Type 1} → statement M
 work-spec =
@@ -64,7 +70,7 @@ work-spec =
     products-of-requires
     add-made
     array-share-prefix-made
-    slice-aggregate-write-targets
-    write-targets-requires
+    slice-aggregate-target-products
+    target-products-requires
     same-length
     returns)

@@ -10,18 +10,18 @@ use mir.Syntax.{w32, w64}
 use mir.Val.{SFits, toZ, ofZ}
 use mir.ValLaws.{toZ-ofZ}
 use Rattle.meaning.specs.Basics.{over}
-use Rattle.meaning.specs.Graph.{rows, served?}
+use Rattle.meaning.specs.Graph.{served?}
 use Rattle.laws.proofs.Over.{over-start, over-more, over-end}
-use Rattle.products.specs.Worked.{targetFrom}
+use Rattle.meaning.specs.Products.{targetProduct}
 use Rattle.products.proofs.Laws.{every-at}
 use Rattle.products.proofs.write_targets.Statement.{statement}
 use Rattle.products.proofs.write_targets.Tie as tie
 
 abbrev Inv-loop : tie.InvT-loop
-Inv-loop ts n words made out₀ k₀ out k = (k ≤ length ts) × (length out ≡ length out₀) × (out ≡ over (map (targetFrom (rows n words) made) (take k ts)) out₀)
+Inv-loop ts values made out₀ k₀ out k = (k ≤ length ts) × (length out ≡ length out₀) × (out ≡ over (map (targetProduct values made) (take k ts)) out₀)
 
 abbrev μ-loop : tie.MeasureT-loop
-μ-loop ts n words made out₀ k₀ out k = length ts - k
+μ-loop ts values made out₀ k₀ out k = length ts - k
 
 -- the element that a turn reads, a number of 32 bits
 t-is : (c : tie.After-t Inv-loop μ-loop) → let t = getD (c .before .before .before .before .args .ts .now) (c .before .before .loop .k) (pos 0) in toZ w32 (ofZ w32 t) ≡ t
@@ -31,7 +31,7 @@ fit : (c : tie.After-target-product Inv-loop μ-loop) → SFits w64 (c .target-p
 fit c = search needs
 
 loop-holds : tie.Need-loop-holds Inv-loop μ-loop
-loop-holds c = let s = c .before .args in (omega arith, refl, over-start (targetFrom (rows (s .n) (s .words .now)) (s .made .now)) (s .ts .now) (s .out .now))
+loop-holds c = let s = c .before .args in (omega arith, refl, over-start (targetProduct (s .values .now) (s .made .now)) (s .ts .now) (s .out .now))
 
 mul-t : tie.Need-mul-t Inv-loop μ-loop
 mul-t c = search needs
@@ -42,10 +42,10 @@ shared-slice-copy-out-t c = search needs
 target-product-requires : tie.Need-target-product-requires Inv-loop μ-loop
 target-product-requires c κs =
     let s = c .before .before .before .before in
-    (s .pre .1, rw (t-is c) (every-at (served? (rows (s .args .n) (s .args .words .now))) (s .args .ts .now) (c .before .before .loop .k) (pos 0) (c .before .loop-test .taken) (s .pre .2)))
+    (s .pre .1, rw (t-is c) (every-at (served? (s .args .values .now)) (s .args .ts .now) (c .before .before .loop .k) (pos 0) (c .before .loop-test .taken) (s .pre .2)))
 
-mul-t8 : tie.Need-mul-t8 Inv-loop μ-loop
-mul-t8 c = search needs
+mul-t7 : tie.Need-mul-t7 Inv-loop μ-loop
+mul-t7 c = search needs
 
 slice-set-from-out : tie.Need-slice-set-from-out Inv-loop μ-loop
 slice-set-from-out c = search needs
@@ -63,7 +63,7 @@ loop-again c =
       omega arith,
       simp length-set (l .inv .1),
       rw (toZ-ofZ w64 _ (fit c), c .target-product .ensures, t-is (c .before), l .inv .2)
-          (over-more (targetFrom (rows (s .args .n) (s .args .words .now)) (s .args .made .now)) (s .args .ts .now) (pos 0) (s .args .out .now) (l .k) (c .before .before .loop-test .taken) (s .pre .0)),
+          (over-more (targetProduct (s .args .values .now) (s .args .made .now)) (s .args .ts .now) (pos 0) (s .args .out .now) (l .k) (c .before .before .loop-test .taken) (s .pre .0)),
     )
 
 same-length : tie.Need-same-length Inv-loop μ-loop
@@ -72,7 +72,7 @@ same-length c = search needs
 returns : tie.Need-returns Inv-loop μ-loop
 returns c =
     let s = c .before .before .before .args in
-    c .before .loop .inv .2 ∙ over-end (targetFrom (rows (s .n) (s .words .now)) (s .made .now)) (s .ts .now) (s .out .now) (c .before .loop .k) (omega arith)
+    c .before .loop .inv .2 ∙ over-end (targetProduct (s .values .now) (s .made .now)) (s .ts .now) (s .out .now) (c .before .loop .k) (omega arith)
 
 pub write-targets-spec : {M : Type 1} → statement M
 write-targets-spec =
@@ -84,7 +84,7 @@ write-targets-spec =
     mul-t
     shared-slice-copy-out-t
     target-product-requires
-    mul-t8
+    mul-t7
     slice-set-from-out
     add-k
     loop-less
