@@ -3,6 +3,8 @@ mod ready_list;
 
 use meaning::Answer;
 use meaning::Far;
+use search::LONG_MAP;
+use search::SHORT_MAP;
 ghost use mathlib.Core.Path.{_≡_};
 ghost use mathlib.Core.Bool.{false};
 ghost use Prim.Native.Nat.{_≤_};
@@ -10,7 +12,7 @@ ghost use lib.ListN.{length};
 ghost use Rattle.meaning.specs.Basics.{has};
 ghost use Rattle.meaning.specs.Distance.{distance as Distance·distance};
 ghost use Rattle.meaning.specs.Refusals.{distanceTold};
-ghost use Rattle.search.specs.Marks.{Odd, Ready, State};
+ghost use Rattle.search.specs.Marks.{longLimit, Odd, Ready, State};
 
 // The map of what one operation on the values reaches.
 fn fill(map: &mut [u8], limit: u32, vals: &[u32])
@@ -40,17 +42,16 @@ fn beyond_by(map: &mut [u8], limit: u32, vals: &[u32], c: u32) -> Far
     Far::Beyond
 }
 
-// The same by a map of its own: a short one where it has a byte for each odd number, since clearing the long one takes longer
-// than all else there.
+// The same by a map of its own.
 fn beyond_zero(limit: u32, vals: &[u32], c: u32) -> Far
-    requires { ⌜ (limit ≤ 17) × Ready limit (now vals) (length (now vals)) × Odd limit c × (has (now vals) c ≡ false) ⌝ }
+    requires { ⌜ (limit ≤ longLimit) × Ready limit (now vals) (length (now vals)) × Odd limit c × (has (now vals) c ≡ false) ⌝ }
     ensures { λ r. ⌜ r ≡ Distance·distance limit (now (vals .entry)) c ⌝ }
 {
-    if limit <= 13 {
-        let mut short = [0u8; 4096];
+    if search::short_serves(limit) {
+        let mut short = [0u8; SHORT_MAP];
         return beyond_by(&mut short, limit, vals, c);
     }
-    let mut long = [0u8; 65536];
+    let mut long = [0u8; LONG_MAP];
     beyond_by(&mut long, limit, vals, c)
 }
 
@@ -62,8 +63,8 @@ pub fn distance(b: u32, vals: &[u32], c: u32) -> Far
     if let Answer::Refused(why) = answer {
         return Far::Refused(why);
     }
-    if search::ready::has(vals, vals.len(), c) {
+    if arith::has(vals, vals.len(), c) {
         return Far::Zero;
     }
-    beyond_zero(b + 1, vals, c)
+    beyond_zero(arith::limit(b), vals, c)
 }

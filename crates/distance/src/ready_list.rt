@@ -1,11 +1,13 @@
 // The refusals of the distance call: the bit limit, the ready list and the target.
 use meaning::Answer;
+use meaning::MOST_READY;
 use meaning::Refusal;
 ghost use mathlib.Core.Path.{_≡_};
 ghost use mathlib.Core.Bool.{_&&_};
 ghost use Prim.Native.Nat.{_%_, _^_, _≤_};
 ghost use lib.Dec.{eqb, ltb};
 ghost use lib.ListN.{length};
+ghost use Rattle.meaning.specs.Limits.{mostReady};
 ghost use Rattle.meaning.specs.Refusals.{readyValues, distanceOrder, firstOf};
 
 // v is odd and below 2^l.
@@ -21,12 +23,13 @@ fn odd_below(v: u32, l: u32) -> bool
 
 // Refusal 10 with the first value that is not odd in 1..G-1.
 fn ready_values(b: u32, vals: &[u32]) -> Answer
-    requires { ⌜ (b ≤ 16) × (length (now vals) ≤ 129) ⌝ }
+    requires { ⌜ (b ≤ 16) × (length (now vals) ≤ mostReady) ⌝ }
     ensures { λ r. ⌜ r ≡ readyValues b (now (vals .entry)) ⌝ }
 {
+    let limit = arith::limit(b);
     let mut i = 0;
     while i < vals.len() {
-        if !odd_below(vals[i], b + 1) {
+        if !odd_below(vals[i], limit) {
             return Answer::Refused(Refusal::Ready((i + 1) as u32));
         }
         i += 1;
@@ -41,7 +44,7 @@ pub fn admit(b: u32, vals: &[u32], c: u32) -> Answer
     if !arith::within(b as usize, 2, 16) {
         return Answer::Refused(Refusal::Bits);
     }
-    if !arith::within(vals.len(), 1, 129) {
+    if !arith::within(vals.len(), 1, MOST_READY) {
         return Answer::Refused(Refusal::Ready(0));
     }
     let values = ready_values(b, vals);

@@ -19,8 +19,8 @@ use Rattle.laws.proofs.Tests.{true-of, false-of}
 use Rattle.laws.proofs.Choices.{got, found, first-from, first-got, row-from, got-row}
 use Rattle.laws.proofs.Steps.{near as reached, rule-a-is}
 use Rattle.generator.specs.Growth.{atMostOne}
-use Rattle.search.specs.declared.serving.Choice.{Choice}
-use Rattle.search.specs.declared.serving.Choice.the-variants.{At, Nothing}
+use Rattle.search.specs.declared.serving.Trials.{Trials}
+use Rattle.search.specs.declared.serving.Trials.the-variants.{At, Nothing}
 use Rattle.search.specs.Choices.{chosenIn}
 use Rattle.search.specs.Marks.{marked, State}
 use Rattle.search.proofs.Marks.{reached-is}
@@ -143,12 +143,12 @@ served-rows L vals cs c s i p e =
     }
 
 module _ (L : ℕ) (vals cs : List ℕ) (c : ℕ) (rest : List ℕ) (on : ruleB L vals cs ≡ ruleB L vals (c ∷ rest)) where
-  pub picked-at : (k : ℕ) (r : Choice) (s n : ℕ) → List·Memᴰ c cs → r ≡ chosenIn L vals c k → r ≡ At s n → Serves L vals cs c s
+  pub picked-at : (k : ℕ) (r : Trials) (s n : ℕ) → List·Memᴰ c cs → r ≡ chosenIn L vals c k → r ≡ At s n → Serves L vals cs c s
   picked-at k r s n i e f =
       let g = sym e ∙ f in served-rows L vals cs c s i (at-served L vals c k s n g) (on ∙ b-at L vals c k s n rest g)
 
   -- as many trials as there are candidates find nothing
-  pub picked-none : (k : ℕ) (r : Choice) (n : ℕ) → r ≡ chosenIn L vals c k → 2 ^ (L - 1) ≤ k + 1 → r ≡ Nothing n → ruleB L vals cs ≡ ruleB L vals rest
+  pub picked-none : (k : ℕ) (r : Trials) (n : ℕ) → r ≡ chosenIn L vals c k → 2 ^ (L - 1) ≤ k + 1 → r ≡ Nothing n → ruleB L vals cs ≡ ruleB L vals rest
   picked-none k r n e h f = on ∙ b-nothing L vals c k n rest h (sym e ∙ f)
 
 -- 65535 trials are all the candidates that 17 bits have

@@ -5,7 +5,7 @@ use mathlib.Core.List.{List, [], _∷_, _++_, List·Memᴰ}
 use mathlib.Core.Option.{Option, some, none}
 use Prim.Native.Nat.{ℕ, _+_, _-_, _*_, _≤_}
 use lib.ListN.{length}
-use Rattle.meaning.specs.Limits.{mostRows}
+use Rattle.meaning.specs.Limits.{mostRows, mostReady}
 use Rattle.meaning.specs.declared.Prefix.{Prefix}
 use Rattle.meaning.specs.declared.Row.{Row}
 use Rattle.meaning.specs.Basics.{has, overAt}
@@ -13,15 +13,15 @@ use Rattle.meaning.specs.Graph.{rowLength, flat, values}
 use Rattle.meaning.specs.Digits.{prefixes}
 use Rattle.meaning.specs.Generator.{prefixRow}
 use Rattle.search.specs.declared.ready.Ready.{Ready}
-use Rattle.search.specs.Listed.{room, listed, Fit}
+use Rattle.search.specs.Listed.{listed, Fit}
 use Rattle.search.specs.Marks.{Odd, State}
 
--- n rows more have room
+-- n rows more have mostReady
 pub record Open (L : ℕ) (set : Ready) (map out : List ℕ) (n : ℕ) : Type 0 where
   pub fit : Fit set
   pub some : 1 ≤ set .count
   pub state : State L map (set .values) (set .count)
-  pub space : set .count + n ≤ room
+  pub space : set .count + n ≤ mostReady
   pub words : rowLength * mostRows ≤ length out
 
 -- the rows xs have been added: their words stand behind those before, and nothing else is changed

@@ -1,7 +1,7 @@
 // One turn of the generator's rule: a row by step A, two by step B, or the prefixes' rows by step C.
 use constants::wanted::Wanted;
 use search::ready::Ready;
-use search::serving::Choice;
+use search::serving::Trials;
 ghost use mathlib.Core.Path.{_≡_};
 ghost use mathlib.Core.List.{List·Memᴰ};
 ghost use Prim.Native.Nat.{_/_, _≤_, _<_};
@@ -51,7 +51,7 @@ fn pick(map: &[u8], limit: u32, set: Ready, w: Wanted) -> Chosen
     while i < w.count {
         let c = w.values[i];
         let choice = search::serving::choose(map, limit, &set.values, set.count, c, 65535);
-        if let Choice::At { s, tried: _ } = choice {
+        if let Trials::At { s, tried: _ } = choice {
             return Chosen::By { c, s };
         }
         i += 1;

@@ -152,6 +152,10 @@ index-inside k (x ∷ xs) c h = go (eqb x c) (index-inside (suc k) xs c (omega a
     go true l = omega arith
     go false l = omega arith
 
+pub index-most : (xs : List ℕ) (c : ℕ) → indexFrom 0 xs c ≤ length xs
+index-most [] c = unfold indexFrom in (omega arith)
+index-most (x ∷ xs) c = omega (arith, index-inside 0 (x ∷ xs) c (omega arith))
+
 -- the same as a loop over the list meets it: the index for all is the index for what is left
 pub index-miss : (k i : ℕ) (xs : List ℕ) (c : ℕ) → i < length xs → (getD xs i 0 ≡ c → ⊥) → indexFrom k (drop i xs) c ≡ indexFrom (k + 1) (drop (i + 1) xs) c
 unfolding indexFrom

@@ -20,7 +20,7 @@ use Rattle.search.specs.Sides.{with?, twice?}
 use Rattle.search.specs.Marks.{marked, Odd, Ready, State}
 use Rattle.search.proofs.Marks.{reached-is}
 use Rattle.search.proofs.Serves.{AllOdd, some-bits, serves-is}
-use Rattle.search.specs.declared.serving.Choice.the-variants.{At, Nothing}
+use Rattle.search.specs.declared.serving.Trials.the-variants.{At, Nothing}
 use Rattle.search.specs.Choices.{used, serving, pick, chosenIn}
 use Rattle.search.specs.Least.{Seen, Lowers}
 use Rattle.search.proofs.Scan.{used-map}

@@ -5,12 +5,8 @@ use mathlib.Core.List.{List, [], _∷_, _++_}
 use Prim.Native.Nat.{ℕ, _+_, _≤_, _<_}
 use lib.Dec.{ltb}
 use lib.ListN.{length, take, set, replicate}
-use Rattle.meaning.specs.Limits.{mostRows}
+use Rattle.meaning.specs.Limits.{mostReady}
 use Rattle.search.specs.declared.ready.Ready.{Ready}
-
--- the input and 128 rows
-abbrev pub room : ℕ
-room = mostRows + 1
 
 -- in the order of their indices
 abbrev pub listed : Ready → List ℕ
@@ -18,16 +14,16 @@ listed r = take (r .count) (r .values)
 
 -- every value counted has a place
 pub record Fit (r : Ready) : Type 0 where
-  pub places : length (r .values) ≡ room
-  pub bound : r .count ≤ room
+  pub places : length (r .values) ≡ mostReady
+  pub bound : r .count ≤ mostReady
 
 -- the set of the input's value alone
 unfoldable pub started : Ready
-started = record { values = set (replicate room 0) 0 1; count = 1 }
+started = record { values = set (replicate mostReady 0) 0 1; count = 1 }
 
 -- v in the first free place; a full set unchanged
 unfoldable pub grown : Ready → ℕ → Ready
-grown r v = cond (ltb (r .count) room) (record { values = set (r .values) (r .count) v; count = r .count + 1 }) r
+grown r v = cond (ltb (r .count) mostReady) (record { values = set (r .values) (r .count) v; count = r .count + 1 }) r
 
 pub record Started (r : Ready) : Type 0 where
   pub is : r ≡ started
@@ -35,9 +31,9 @@ pub record Started (r : Ready) : Type 0 where
   pub one : r .count ≡ 1
   pub list : listed r ≡ 1 ∷ []
 
--- where there was room, the list is longer by v
+-- where there was mostReady, the list is longer by v
 pub record Added (old : Ready) (v : ℕ) (new : Ready) : Type 0 where
   pub is : new ≡ grown old v
   pub fit : Fit old → Fit new
-  pub more : old .count < room → new .count ≡ old .count + 1
-  pub list : old .count < room → listed new ≡ listed old ++ (v ∷ [])
+  pub more : old .count < mostReady → new .count ≡ old .count + 1
+  pub list : old .count < mostReady → listed new ≡ listed old ++ (v ∷ [])

@@ -5,6 +5,7 @@ use mathlib.Core.List.{List}
 use Prim.Native.Nat.{ℕ, _+_, _*_, _/_, _%_, _^_, _≤_, _<_}
 use lib.Dec.{eqb}
 use lib.ListN.{length, getD, take}
+use Rattle.meaning.specs.Limits.{mostLimit}
 use Rattle.meaning.specs.Distance.{reach?}
 
 abbrev pub bit : Bool → ℕ
@@ -30,7 +31,14 @@ marked ms c = eqb (getD ms (c / 2) 0) 1
 
 -- the map has a byte for each odd number below 2 ^ L
 abbrev pub Wide : ℕ → List ℕ → Type 0
-Wide L ms = (L ≤ 19) × (2 ^ L ≤ 2 * length ms)
+Wide L ms = (L ≤ mostLimit) × (2 ^ L ≤ 2 * length ms)
+
+-- the greatest limits for which maps of 4,096 and of 65,536 bytes are wide
+abbrev pub shortLimit : ℕ
+shortLimit = 13
+
+abbrev pub longLimit : ℕ
+longLimit = 17
 
 -- odd, and below 2 ^ L
 abbrev pub Odd : ℕ → ℕ → Type 0

@@ -2,13 +2,19 @@
 pub mod ready;
 pub mod serving;
 
+// The bytes of both maps, and up to which limit the short one serves: 2^13 is 2 × 4096.
+pub const SHORT_MAP: usize = 4096;
+pub const LONG_MAP: usize = 65536;
+const SHORT_LIMIT: u32 = 13;
+
 ghost use mathlib.Core.Path.{_≡_};
 ghost use mathlib.Core.List.{[], _∷_, _++_};
-ghost use Prim.Native.Nat.{_+_, _/_, _<_};
+ghost use Prim.Native.Nat.{_+_};
+ghost use lib.Dec.{leb};
 ghost use lib.ListN.{length, take};
 ghost use Rattle.meaning.specs.Distance.{oneOp?, reach?};
 ghost use Rattle.search.specs.Sides.{hits?, sideTo?, with?};
-ghost use Rattle.search.specs.Marks.{Holds, Adds, marked, Wide, Odd, Ready, State};
+ghost use Rattle.search.specs.Marks.{Holds, Adds, marked, shortLimit, Wide, Odd, Ready, State};
 
 // n without its trailing zeros is marked, if that is below 2^limit.
 fn mark(map: &mut [u8], limit: u32, n: u64)
@@ -78,9 +84,19 @@ pub fn add(map: &mut [u8], limit: u32, ready: &[u32], n: usize, v: u32)
 
 // The odd number c is marked.
 pub fn reached(map: &[u8], c: u32) -> bool
-    requires { ⌜ c / 2 < length (now map) ⌝ }
     ensures { λ r. ⌜ r ≡ marked (now (map .entry)) c ⌝ }
 {
     let at = (c / 2) as usize;
+    if at >= map.len() {
+        return false;
+    }
     map[at] == 1
+}
+
+// A short map has a byte for each odd number below 2^limit. Clearing the long one, which always has, takes longer than drawing a
+// small list.
+pub fn short_serves(limit: u32) -> bool
+    ensures { λ r. ⌜ r ≡ leb limit shortLimit ⌝ }
+{
+    limit <= SHORT_LIMIT
 }

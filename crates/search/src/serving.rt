@@ -14,7 +14,7 @@ ghost use Rattle.search.specs.Choices.{chosenIn};
 ghost use Rattle.search.specs.Least.{Lowers};
 
 // The smallest value that serves and the candidates tried, or only these.
-pub enum Choice {
+pub enum Trials {
     At { s: u32, tried: u32 },
     Nothing { tried: u32 },
 }
@@ -155,7 +155,7 @@ fn last(limit: u32, ceiling: u32) -> u32
 
 // The smallest s that one operation on the ready values reaches and with which one operation gives c, within `ceiling` trials,
 // and the trials used. It may be greater than c.
-pub fn choose(map: &[u8], limit: u32, ready: &[u32], n: usize, c: u32, ceiling: u32) -> Choice
+pub fn choose(map: &[u8], limit: u32, ready: &[u32], n: usize, c: u32, ceiling: u32) -> Trials
     requires { ⌜ State limit (now map) (now ready) n × Odd limit c × (reach? limit (take n (now ready)) c ≡ false) ⌝ }
     ensures { λ r. ⌜ r ≡ chosenIn limit (take n (now (ready .entry))) c ceiling ⌝ }
 {
@@ -163,10 +163,10 @@ pub fn choose(map: &[u8], limit: u32, ready: &[u32], n: usize, c: u32, ceiling: 
     let bound = 2 * end;
     let s = least_partner(map, limit, ready, n, c, 3, bound);
     if s < bound {
-        return Choice::At { s: s, tried: s / 2 };
+        return Trials::At { s: s, tried: s / 2 };
     }
     let tried = end - 1;
-    Choice::Nothing { tried: tried }
+    Trials::Nothing { tried: tried }
 }
 
 // Some s that one operation on the ready values reaches is such that with it one operation gives c. A ready list need not

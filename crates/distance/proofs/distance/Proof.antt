@@ -62,23 +62,28 @@ returns-2 c =
     let a = t .before .before .before .before .args in
     zero-is (limit (a .b)) (a .vals .now) (a .c) (found _ (a .vals .now) (a .c) (c .before .has .ensures) ∙ c .if1 .taken) ∙ sym (told t)
 
-add-beyond-zero : tie.Need-add-beyond-zero
-add-beyond-zero c = let q = asked (c .before .before) .bits in omega arith
+limit-requires : tie.Need-limit-requires
+limit-requires c κs = let q = asked (c .before .before) .bits in omega arith
 
 beyond-zero-requires : tie.Need-beyond-zero-requires
 beyond-zero-requires c κs =
-    let t = c .before .before in
+    let t = c .before .before .before in
     let a = t .before .before .before .before .args in
     let q = asked t in
-    let m : 2 ^ a .b ≤ 2 ^ (a .b + 1) = pow-mono {i = a .b} {j = a .b + 1} (omega arith) in (
+    let m : 2 ^ a .b ≤ 2 ^ limit (a .b) = pow-mono {i = a .b} {j = limit (a .b)} (omega arith) in
+    rw (c .limit .ensures)
+    (
       omega (arith, q .bits),
       ready (a .b) (a .vals .now) (a .c) q,
       (q .target .0, omega (arith, q .target .1)),
-      found _ (a .vals .now) (a .c) (c .before .has .ensures) ∙ c .if1 .left,
+      found _ (a .vals .now) (a .c) (c .before .before .has .ensures) ∙ c .before .if1 .left,
     )
 
 returns-3 : tie.Need-returns-3
-returns-3 c = c .beyond-zero .ensures ∙ sym (told (c .before .before .before))
+returns-3 c =
+    let t = c .before .before .before .before in
+    let a = t .before .before .before .before .args in
+    c .beyond-zero .ensures ∙ ap (λ L. distance L (a .vals .now) (a .c)) (c .before .limit .ensures) ∙ sym (told t)
 
 pub distance-spec : {M : Type 1} → statement M
 distance-spec =
@@ -90,6 +95,6 @@ distance-spec =
     enum-told
     has-requires
     returns-2
-    add-beyond-zero
+    limit-requires
     beyond-zero-requires
     returns-3)

@@ -6,47 +6,38 @@ use Prim.Native.Nat.{ℕ, _%_, _^_, _≤_}
 use native.Mathlib.Omega.{arith}
 use borrow.Author.Needs.{needs}
 use borrow.Author.Tests.{not-true, not-false}
-use lib.Dec.{leb, eqb, ltb, leb→le}
+use lib.Dec.{eqb, ltb, leb→le}
 use lib.ListN.{length}
 use Rattle.meaning.specs.declared.Refusal.the-variants as no
 use Rattle.meaning.specs.Basics.{all}
+use Rattle.meaning.specs.Limits.{between, bitTests, mostReady}
 use Rattle.meaning.specs.Refusals.{readyLength, readyValues, target, distanceOrder, firstOf}
 use Rattle.laws.proofs.Tests.{pair-all, T-of, all-of}
 use Rattle.laws.proofs.Stages.{stops, passes, last, stops-at, passes-on}
 use Rattle.distance.proofs.ready_list.admit.Statement.{statement}
 use Rattle.distance.proofs.ready_list.admit.Tie as tie
 
-abbrev bits : ℕ → List Bool
-bits b = leb 2 b ∷ leb b 16 ∷ []
-
 abbrev lengths : List ℕ → List Bool
-lengths vals = leb 1 (length vals) ∷ leb (length vals) 129 ∷ []
+lengths vals = between 1 mostReady (length vals)
 
 abbrev odd : ℕ → ℕ → List Bool
 odd b c = eqb (c % 2) 1 ∷ ltb c (2 ^ b) ∷ []
 
--- what the tests say
-first : (c : tie.After-within) → c .within .result ≡ all (bits (c .before .before .args .b))
-first c = let b = c .before .before .args .b in c .within .ensures ∙ pair-all (leb 2 b) (leb b 16)
-
-second : (c : tie.After-within2) → c .within2 .result ≡ all (lengths (c .before .before .before .before .args .vals .now))
-second c = let n = length (c .before .before .before .before .args .vals .now) in c .within2 .ensures ∙ pair-all (leb 1 n) (leb n 129)
-
-bits-hold : (c : tie.Else1) → all (bits (c .before .before .before .args .b)) ≡ true
-bits-hold c = sym (first (c .before)) ∙ not-false _ (c .if1 .left)
+bits-hold : (c : tie.Else1) → all (bitTests (c .before .before .before .args .b)) ≡ true
+bits-hold c = sym (c .before .within .ensures) ∙ not-false _ (c .if1 .left)
 
 small : (c : tie.Else1) → c .before .before .before .args .b ≤ 16
-small c = let p = all-of (bits (c .before .before .before .args .b)) (T-of (bits-hold c)) in leb→le _ _ (p .1 .0)
+small c = let p = all-of (bitTests (c .before .before .before .args .b)) (T-of (bits-hold c)) in leb→le _ _ (p .1 .0)
 
 lengths-hold : (c : tie.Else2) → all (lengths (c .before .before .before .before .before .args .vals .now)) ≡ true
-lengths-hold c = sym (second (c .before)) ∙ not-false _ (c .if2 .left)
+lengths-hold c = sym (c .before .within2 .ensures) ∙ not-false _ (c .if2 .left)
 
 -- past the bit limit, past the length, and past the values
 past-bits : (c : tie.Else1) → let a = c .before .before .before .args in
     firstOf (distanceOrder (a .b) (a .vals .now) (a .c)) ≡ firstOf (readyLength (a .vals .now) ∷ readyValues (a .b) (a .vals .now) ∷ target (a .b) (a .c) ∷ [])
 past-bits c =
     let a = c .before .before .before .args in
-    passes no.Bits (bits (a .b)) (readyLength (a .vals .now) ∷ readyValues (a .b) (a .vals .now) ∷ target (a .b) (a .c) ∷ []) (bits-hold c)
+    passes no.Bits (bitTests (a .b)) (readyLength (a .vals .now) ∷ readyValues (a .b) (a .vals .now) ∷ target (a .b) (a .c) ∷ []) (bits-hold c)
 
 past-length : (c : tie.Else2) → let a = c .before .before .before .before .before .args in
     firstOf (distanceOrder (a .b) (a .vals .now) (a .c)) ≡ firstOf (readyValues (a .b) (a .vals .now) ∷ target (a .b) (a .c) ∷ [])
@@ -68,7 +59,7 @@ within-requires c κs = search needs
 returns : tie.Need-returns
 returns c =
     let a = c .before .before .before .args in
-    sym (stops no.Bits (bits (a .b)) (readyLength (a .vals .now) ∷ readyValues (a .b) (a .vals .now) ∷ target (a .b) (a .c) ∷ []) (sym (first (c .before)) ∙ not-true _ (c .if1 .taken)))
+    sym (stops no.Bits (bitTests (a .b)) (readyLength (a .vals .now) ∷ readyValues (a .b) (a .vals .now) ∷ target (a .b) (a .c) ∷ []) (sym (c .before .within .ensures) ∙ not-true _ (c .if1 .taken)))
 
 within-requires-2 : tie.Need-within-requires-2
 within-requires-2 c κs = search needs
@@ -78,7 +69,7 @@ returns-2 c =
     let a = c .before .before .before .before .before .args in
     sym
     (past-bits (c .before .before)
-    ∙ stops (no.Ready 0) (lengths (a .vals .now)) (readyValues (a .b) (a .vals .now) ∷ target (a .b) (a .c) ∷ []) (sym (second (c .before)) ∙ not-true _ (c .if2 .taken)))
+    ∙ stops (no.Ready 0) (lengths (a .vals .now)) (readyValues (a .b) (a .vals .now) ∷ target (a .b) (a .c) ∷ []) (sym (c .before .within2 .ensures) ∙ not-true _ (c .if2 .taken)))
 
 ready-values-requires : tie.Need-ready-values-requires
 ready-values-requires c κs =

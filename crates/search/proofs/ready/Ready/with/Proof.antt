@@ -3,12 +3,13 @@ use mathlib.Core.Path.{_≡_}
 use native.Mathlib.Omega.{arith}
 use borrow.Author.Needs.{needs}
 use lib.ListN.{length}
-use Rattle.search.specs.Listed.{room}
+
+use Rattle.meaning.specs.Limits.{mostReady}
 use Rattle.search.proofs.ReadyLaws.{added-full, added-room}
 use Rattle.search.proofs.ready.Ready.with.Statement.{statement}
 use Rattle.search.proofs.ready.Ready.with.Tie as tie
 
-places : (c : tie.Start) → length (c .args .t1 .values) ≡ room
+places : (c : tie.Start) → length (c .args .t1 .values) ≡ mostReady
 places c = search needs
 
 returns : tie.Need-returns
