@@ -17,14 +17,14 @@ use Rattle.meaning.specs.Basics.{over}
 use Rattle.meaning.specs.Limits.{limit, mostRows}
 use Rattle.meaning.specs.Constants.{wanted}
 use Rattle.meaning.specs.Graph.{rowLength, flat}
-use Rattle.meaning.specs.Generator.{turns, generated}
+use Rattle.meaning.specs.Generator.{generated}
 use Rattle.meaning.specs.Refusals.{buffer, fewRows, admitOrder, admitted, Done, given, drawnAs, drawn, drawnTold, rowsWritten}
 use Rattle.laws.proofs.Stages.{stops, stops-at, passes-on, over-none}
 use Rattle.laws.proofs.Chain.{prefix-row}
 use Rattle.laws.proofs.Checked.{Admitted}
 use Rattle.laws.proofs.Wanted.{all-wanted}
 use Rattle.laws.proofs.Generated.{drawn-is}
-use Rattle.generator.specs.Rule.{AllServable}
+use Rattle.generator.specs.Rule.{AllServable, turned}
 
 -- ---- the wanted set
 
@@ -72,6 +72,6 @@ module _ (b : ℕ) (ts : List ℤ) (room : ℕ) where
       }
 
 -- the rule's rows are those of the turns
-pub its-turns : (b : ℕ) (ts : List ℤ) (cs : List ℕ) → cs ≡ wanted ts → turns (limit b) (length cs) cs [] ≡ generated b ts
+pub its-turns : (b : ℕ) (ts : List ℤ) (cs : List ℕ) → cs ≡ wanted ts → turned (limit b) cs ≡ generated b ts
 unfolding generated
-its-turns b ts cs e = ap (λ (l : List ℕ). turns (limit b) (length l) l []) e
+its-turns b ts cs e = ap (turned (limit b)) e

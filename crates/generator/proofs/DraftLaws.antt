@@ -1,18 +1,19 @@
 -- How a graph grows: by nothing, by one row, by rows after rows; and that it stays open for more. Assumes nothing.
-use mathlib.Core.Path.{_≡_, refl, sym, ap, _∙_, subst, subst⁻¹}
+use mathlib.Core.Path.{_≡_, refl, sym, ap, ap₂, _∙_, subst, subst⁻¹}
 use mathlib.Core.Bool.{Bool, true, false}
 use mathlib.Core.List.{List, [], _∷_, _++_, append-nil, append-assoc, map-append}
 use mathlib.Core.Option.{Option, some, none}
 use Prim.Native.Nat.{ℕ, _+_, _-_, _*_, _≤_, _<_}
 use native.Mathlib.Omega.{arith}
 use lib.ListN.{length, length-append, getD, take, drop}
+use Rattle.meaning.specs.declared.Choice.{Choice}
 use Rattle.meaning.specs.declared.Prefix.{Prefix}
 use Rattle.meaning.specs.declared.Row.{Row}
-use Rattle.meaning.specs.Basics.{has, overAt}
-use Rattle.meaning.specs.Graph.{rowLength, words, flat, values}
+use Rattle.meaning.specs.Basics.{has, andThen, overAt}
+use Rattle.meaning.specs.Graph.{rowLength, words, rows, flat, values, ready}
 use Rattle.meaning.specs.Distance.{reach?}
-use Rattle.meaning.specs.Generator.{prefixRow, ruleC}
-use Rattle.laws.proofs.Graphs.{length-flat, flat-append}
+use Rattle.meaning.specs.Generator.{choiceFor, rowOf, rowFor, prefixRow, ruleC}
+use Rattle.laws.proofs.Graphs.{length-flat, flat-append, ready-append, rows-written}
 use Rattle.laws.proofs.Steps.{rule-c-ready, rule-c-row, rule-c-end}
 use Rattle.laws.proofs.Over.{length-over-at, over-at-part, over-at-none}
 use Rattle.search.specs.declared.ready.Ready.{Ready}
@@ -21,28 +22,38 @@ use Rattle.search.proofs.ReadyLaws.{grown-room}
 use Rattle.search.specs.Marks.{Holds, Odd, State}
 use Rattle.search.proofs.Marks.{include-is, one-map}
 use Rattle.generator.specs.Search.{found}
-use Rattle.generator.specs.declared.first_row.Found.the-variants.{At, Missing}
-use Rattle.generator.specs.Growth.{Open, Grown, prefixRows}
+use Rattle.generator.specs.declared.first_choice.Found.the-variants.{At, Missing}
+use Rattle.generator.specs.Growth.{drawnRows, Open, Grown, prefixRows}
 
 -- ---- what was found
 
-pub missing-is : (o : Option Row) → found o ≡ Missing → o ≡ none
+pub missing-is : (o : Option Choice) → found o ≡ Missing → o ≡ none
 missing-is none e = refl
 missing-is (some x) e = absurd (let z : _≡_ {A = ℕ} 0 1 = cc in omega arith)
 
-pub found-is : (o : Option Row) (x : Row) → found o ≡ At x → o ≡ some x
+pub found-is : (o : Option Choice) (x : Choice) → found o ≡ At x → o ≡ some x
 found-is none x e = absurd (let z : _≡_ {A = ℕ} 0 1 = cc in omega arith)
 found-is (some y) x e = cc
 
+-- the row of the choice that was found on the values of some rows
+module _ (L : ℕ) (vals : List ℕ) (before : List Row) (c : ℕ) (same : vals ≡ ready before) where
+  pub row-missing : choiceFor L vals c ≡ none → rowFor L before c ≡ none
+  unfolding rowFor andThen
+  row-missing e = ap (λ o. andThen o (λ x. some (rowOf c x))) (ap (λ l. choiceFor L l c) (sym same) ∙ e)
+
+  pub row-there : (x : Choice) → choiceFor L vals c ≡ some x → rowFor L before c ≡ some (rowOf c x)
+  unfolding rowFor andThen
+  row-there x e = ap (λ o. andThen o (λ x. some (rowOf c x))) (ap (λ l. choiceFor L l c) (sym same) ∙ e)
+
 -- ---- a prefix, ready or not
 
-pub prefix-ready : (vals : List ℕ) (p : Prefix) → has vals (p .value) ≡ true → prefixRows vals p ≡ []
+pub prefix-ready : (before : List Row) (p : Prefix) → has (ready before) (p .value) ≡ true → prefixRows before p ≡ []
 unfolding prefixRows
-prefix-ready vals p e = rw e
+prefix-ready before p e = rw e
 
-pub prefix-new : (vals : List ℕ) (p : Prefix) → has vals (p .value) ≡ false → prefixRows vals p ≡ prefixRow vals p ∷ []
+pub prefix-new : (before : List Row) (p : Prefix) → has (ready before) (p .value) ≡ false → prefixRows before p ≡ prefixRow before p ∷ []
 unfolding prefixRows
-prefix-new vals p e = rw e
+prefix-new before p e = rw e
 
 -- ---- growth
 
@@ -99,12 +110,26 @@ grown-then {old = old} {mid} {new} {before = before} {now} {last} {xs} {ys} n o 
           ∙ ap (λ (l : List ℕ). overAt (rowLength * (old .count - 1)) l before) (sym (flat-append xs ys));
     }
 
+-- the rows drawn are those before and the new ones
+pub drawn-more : {L : ℕ} {old new : Ready} {map marks before now : List ℕ} {xs : List Row} (m : ℕ) → length xs ≤ m → Open L old map before m
+    → Grown L old xs new marks before now → drawnRows new now ≡ drawnRows old before ++ xs
+drawn-more {old = old} {new} {before = before} {xs = xs} m h o g =
+    ap₂ rows (let e : new .count - 1 ≡ old .count - 1 + length xs = omega (arith, g .count, o .some) in e) (g .writes)
+    ∙ rows-written (old .count - 1) before xs (omega (arith, inside m o))
+
+-- and the set lists their values
+lists-more : {L : ℕ} {old new : Ready} {map marks before now : List ℕ} {xs : List Row} (m : ℕ) → length xs ≤ m → Open L old map before m
+    → Grown L old xs new marks before now → listed new ≡ ready (drawnRows new now)
+lists-more {old = old} {before = before} {xs = xs} m h o g =
+    g .lists ∙ ap (λ (l : List ℕ). l ++ values xs) (o .same) ∙ sym (ready-append (drawnRows old before) xs) ∙ ap ready (sym (drawn-more m h o g))
+
 pub open-on : {L : ℕ} {old new : Ready} {map marks before now : List ℕ} {xs : List Row} (m n : ℕ) → length xs + n ≤ m → Open L old map before m
     → Grown L old xs new marks before now → Open L new marks now n
 open-on {old = old} {new} {before = before} {now} {xs} m n h o g =
     record {
       fit = g .fit;
       some = omega (arith, g .count, o .some);
+      same = lists-more m (omega arith) o g;
       state = g .state;
       space = omega (arith, g .count, o .space);
       words = let k = o .words in
@@ -114,63 +139,64 @@ open-on {old = old} {new} {before = before} {now} {xs} m n h o g =
 
 -- room for fewer
 pub open-less : {L : ℕ} {set : Ready} {map out : List ℕ} (m n : ℕ) → n ≤ m → Open L set map out m → Open L set map out n
-open-less m n h o = record { fit = o .fit; some = o .some; state = o .state; space = omega (arith, o .space); words = o .words }
+open-less m n h o = record { fit = o .fit; some = o .some; same = o .same; state = o .state; space = omega (arith, o .space); words = o .words }
 
 -- ---- step C, prefix by prefix
 
-rule-step : (vals : List ℕ) (ps : List Prefix) (i : ℕ) (d : Prefix) → i < length ps
-    → ruleC vals (drop i ps) ≡ prefixRows vals (getD ps i d) ++ ruleC (vals ++ values (prefixRows vals (getD ps i d))) (drop (i + 1) ps)
-rule-step vals ps i d h = go (has vals (getD ps i d .value)) refl
+rule-step : (before : List Row) (ps : List Prefix) (i : ℕ) (d : Prefix) → i < length ps
+    → let xs = prefixRows before (getD ps i d) in ruleC before (drop i ps) ≡ xs ++ ruleC (before ++ xs) (drop (i + 1) ps)
+rule-step before ps i d h = go (has (ready before) (getD ps i d .value)) refl
   where
     p : Prefix
     p = getD ps i d
 
-    go : (b : Bool) → has vals (p .value) ≡ b → ruleC vals (drop i ps) ≡ prefixRows vals p ++ ruleC (vals ++ values (prefixRows vals p)) (drop (i + 1) ps)
-    go true e = rw (prefix-ready vals p e, append-nil vals) (rule-c-ready vals ps i d h e)
-    go false e = rw (prefix-new vals p e) (rule-c-row vals ps i d h e)
+    go : (b : Bool) → has (ready before) (p .value) ≡ b → ruleC before (drop i ps) ≡ prefixRows before p ++ ruleC (before ++ prefixRows before p) (drop (i + 1) ps)
+    go true e = rw (prefix-ready before p e, append-nil before) (rule-c-ready before ps i d h e)
+    go false e = rw (prefix-new before p e) (rule-c-row before ps i d h e)
 
 -- the rows of the first i prefixes, and that those of the others complete the step
 pub record Part (L : ℕ) (old : Ready) (ps : List Prefix) (i : ℕ) (new : Ready) (map before now : List ℕ) : Type 0 where
   pub made : List Row
   pub grown : Grown L old made new map before now
-  pub rest : made ++ ruleC (listed new) (drop i ps) ≡ ruleC (listed old) ps
+  pub rest : made ++ ruleC (drawnRows new now) (drop i ps) ≡ ruleC (drawnRows old before) ps
 
-module _ {L : ℕ} {old : Ready} {ps : List Prefix} {map before : List ℕ} (o : Open L old map before (length (ruleC (listed old) ps))) where
+module _ {L : ℕ} {old : Ready} {ps : List Prefix} {map before : List ℕ} (o : Open L old map before (length (ruleC (drawnRows old before) ps))) where
   pub part-start : Part L old ps 0 old map before before
   part-start = record { made = []; grown = grown-none _ o; rest = refl }
 
   module _ {i : ℕ} {new : Ready} {marks now : List ℕ} (p : Part L old ps i new marks before now) where
-    pub part-open : (d : Prefix) → i < length ps → Open L new marks now (length (prefixRows (listed new) (getD ps i d)))
+    pub part-open : (d : Prefix) → i < length ps → Open L new marks now (length (prefixRows (drawnRows new now) (getD ps i d)))
     part-open d h =
-        let xs = prefixRows (listed new) (getD ps i d) in
-        open-on (length (ruleC (listed old) ps)) (length xs)
+        let xs = prefixRows (drawnRows new now) (getD ps i d) in
+        open-on (length (ruleC (drawnRows old before) ps)) (length xs)
         (omega (
           arith,
           ap length (p .rest),
-          length-append (p .made) (ruleC (listed new) (drop i ps)),
-          ap length (rule-step (listed new) ps i d h),
-          length-append xs (ruleC (listed new ++ values xs) (drop (i + 1) ps)),
+          length-append (p .made) (ruleC (drawnRows new now) (drop i ps)),
+          ap length (rule-step (drawnRows new now) ps i d h),
+          length-append xs (ruleC (drawnRows new now ++ xs) (drop (i + 1) ps)),
         ))
         o (p .grown)
 
     pub part-more : (d : Prefix) → i < length ps → {next : Ready} {more last : List ℕ}
-        → Grown L new (prefixRows (listed new) (getD ps i d)) next more now last → Part L old ps (i + 1) next more before last
-    part-more d h {next} g =
-        let xs = prefixRows (listed new) (getD ps i d) in
+        → Grown L new (prefixRows (drawnRows new now) (getD ps i d)) next more now last → Part L old ps (i + 1) next more before last
+    part-more d h {next} {last = last} g =
+        let xs = prefixRows (drawnRows new now) (getD ps i d) in
+        let here = part-open d h in
         record {
           made = p .made ++ xs;
           grown = grown-then _ o (p .grown) g;
           rest =
-              append-assoc (p .made) xs (ruleC (listed next) (drop (i + 1) ps))
-              ∙ ap (λ (l : List ℕ). p .made ++ (xs ++ ruleC l (drop (i + 1) ps))) (g .lists)
-              ∙ ap (λ (l : List Row). p .made ++ l) (sym (rule-step (listed new) ps i d h))
+              append-assoc (p .made) xs (ruleC (drawnRows next last) (drop (i + 1) ps))
+              ∙ ap (λ (l : List Row). p .made ++ (xs ++ ruleC l (drop (i + 1) ps))) (drawn-more (length xs) (omega arith) here g)
+              ∙ ap (λ (l : List Row). p .made ++ l) (sym (rule-step (drawnRows new now) ps i d h))
               ∙ p .rest;
         }
 
-    pub part-end : length ps ≤ i → Grown L old (ruleC (listed old) ps) new marks before now
+    pub part-end : length ps ≤ i → Grown L old (ruleC (drawnRows old before) ps) new marks before now
     part-end h =
         subst (λ (xs : List Row). Grown L old xs new marks before now)
-        (sym (append-nil (p .made)) ∙ ap (λ (l : List Row). p .made ++ l) (sym (rule-c-end (listed new) ps i h)) ∙ p .rest) (p .grown)
+        (sym (append-nil (p .made)) ∙ ap (λ (l : List Row). p .made ++ l) (sym (rule-c-end (drawnRows new now) ps i h)) ∙ p .rest) (p .grown)
 
 -- ---- one answer
 

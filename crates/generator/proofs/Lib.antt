@@ -2,5 +2,5 @@ pub mod Turns
 pub mod Answers
 pub mod RuleLaws
 pub mod DraftLaws
-pub mod FirstRowLaws
+pub mod FirstChoice
 pub mod RemainingLaws

@@ -9,17 +9,22 @@ use Rattle.meaning.specs.Limits.{mostRows, mostReady}
 use Rattle.meaning.specs.declared.Prefix.{Prefix}
 use Rattle.meaning.specs.declared.Row.{Row}
 use Rattle.meaning.specs.Basics.{has, overAt}
-use Rattle.meaning.specs.Graph.{rowLength, flat, values}
+use Rattle.meaning.specs.Graph.{rowLength, rows, flat, values, ready}
 use Rattle.meaning.specs.Digits.{prefixes}
 use Rattle.meaning.specs.Generator.{prefixRow}
 use Rattle.search.specs.declared.ready.Ready.{Ready}
 use Rattle.search.specs.Listed.{listed, Fit}
 use Rattle.search.specs.Marks.{Odd, State}
 
--- n rows more have mostReady
+-- the rows drawn: as many as the set counts values, but for the input's
+abbrev pub drawnRows : Ready → List ℕ → List Row
+drawnRows set out = rows (set .count - 1) out
+
+-- the set lists the values of the rows drawn, the map holds what one operation on them reaches, and n rows more have room
 pub record Open (L : ℕ) (set : Ready) (map out : List ℕ) (n : ℕ) : Type 0 where
   pub fit : Fit set
   pub some : 1 ≤ set .count
+  pub same : listed set ≡ ready (drawnRows set out)
   pub state : State L map (set .values) (set .count)
   pub space : set .count + n ≤ mostReady
   pub words : rowLength * mostRows ≤ length out
@@ -38,8 +43,8 @@ atMostOne none = []
 atMostOne (some x) = x ∷ []
 
 -- step C's row of a prefix, if it is not ready
-unfoldable pub prefixRows : List ℕ → Prefix → List Row
-prefixRows vals p = cond (has vals (p .value)) [] (prefixRow vals p ∷ [])
+unfoldable pub prefixRows : List Row → Prefix → List Row
+prefixRows before p = cond (has (ready before) (p .value)) [] (prefixRow before p ∷ [])
 
 -- what step C can serve
 pub record Servable (L c : ℕ) : Type 0 where

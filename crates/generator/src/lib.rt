@@ -1,29 +1,30 @@
 // The generator: while wanted constants remain, a turn of the rule.
 mod draft;
-mod first_row;
+mod first_choice;
 mod remaining;
 mod rule;
 
 use constants::wanted::Wanted;
 use meaning::Answer;
 use meaning::Drawn;
-use meaning::ROW_LENGTH;
+use meaning::FULL_LENGTH;
 use meaning::Refusal;
+use search::LONG_MAP;
+use search::SHORT_MAP;
 use search::ready::Ready;
 ghost use mathlib.Core.Path.{_≡_};
 ghost use mathlib.Core.List.{[]};
-ghost use Prim.Native.Nat.{_+_, _*_, _≤_, _<_};
+ghost use Prim.Native.Nat.{_+_, _*_, _≤_};
 ghost use lib.ListN.{length};
 ghost use Rattle.constants.specs.Held.{kept};
 ghost use Rattle.meaning.specs.declared.Answer.the-variants.{Accepted};
 ghost use Rattle.meaning.specs.Basics.{over};
-ghost use Rattle.meaning.specs.Limits.{limit as Limits·limit, mostRows};
+ghost use Rattle.meaning.specs.Limits.{limit as Limits·limit, mostTargets, mostRows};
 ghost use Rattle.meaning.specs.Graph.{rowLength, flat};
-ghost use Rattle.meaning.specs.Generator.{turns};
 ghost use Rattle.meaning.specs.Refusals.{admitted, Done, drawnTold, rowsWritten};
 ghost use Rattle.search.specs.Listed.{Started};
 ghost use Rattle.search.specs.Marks.{State};
-ghost use Rattle.generator.specs.Rule.{AllServable};
+ghost use Rattle.generator.specs.Rule.{turned, Drawable};
 
 // The input alone.
 fn start(map: &mut [u8], limit: u32) -> Ready
@@ -37,10 +38,8 @@ fn start(map: &mut [u8], limit: u32) -> Ready
 
 // As many turns as there are constants.
 fn draw(map: &mut [u8], limit: u32, out: &mut [u32], w: Wanted) -> Ready
-    requires { ⌜ (1 ≤ limit) × (limit ≤ 17) × State limit (now map) [] 0 × (w .count ≤ 16) × AllServable limit (kept w)
-        × (length (turns limit (length (kept w)) (kept w) []) ≤ mostRows) × (rowLength * mostRows ≤ length (now out)) ⌝ }
-    ensures { λ r. ⌜ (r .count ≡ length (turns limit (length (kept w)) (kept w) []) + 1)
-        × (now (out .exit) ≡ over (flat (turns limit (length (kept w)) (kept w) [])) (now (out .entry))) ⌝ }
+    requires { ⌜ Drawable limit (now map) (now out) (kept w) × (w .count ≤ mostTargets) ⌝ }
+    ensures { λ r. ⌜ (r .count ≡ length (turned limit (kept w)) + 1) × (now (out .exit) ≡ over (flat (turned limit (kept w))) (now (out .entry))) ⌝ }
 {
     let mut set = start(map, limit);
     let mut k = 0;
@@ -59,13 +58,13 @@ fn rows_by(map: &mut [u8], b: u32, ts: &[i32], out: &mut [u32]) -> Drawn
         (now (out .entry)) (now (out .exit))
         ⌝ }
 {
-    let set = draw(map, b + 1, out, constants::wanted::wanted_of(ts));
+    let limit = arith::limit(b);
+    let set = draw(map, limit, out, constants::wanted::wanted_of(ts));
     Drawn::Rows((set.count - 1) as u32)
 }
 
 // The rows of the generator's rule from the front of out, and how many they are. Refusals 1, 2, 3, 4; a 129th row is never
-// needed, so 8 does not come. A short map serves where it has a byte for each odd number: the long one takes longer to clear
-// than a small list to draw.
+// needed, so 8 does not come.
 pub fn generate(b: u32, ts: &[i32], out: &mut [u32]) -> Drawn
     ensures { λ r. ⌜
         Done (drawnTold b (now (ts .entry)) (length (now (out .entry)))) (rowsWritten b (now (ts .entry)) (length (now (out .entry)))) r
@@ -76,13 +75,13 @@ pub fn generate(b: u32, ts: &[i32], out: &mut [u32]) -> Drawn
     if let Answer::Refused(why) = answer {
         return Drawn::Refused(why);
     }
-    if out.len() < ROW_LENGTH * 128 {
+    if out.len() < FULL_LENGTH {
         return Drawn::Refused(Refusal::Buffer);
     }
-    if b <= 12 {
-        let mut short = [0u8; 4096];
+    if search::short_serves(arith::limit(b)) {
+        let mut short = [0u8; SHORT_MAP];
         return rows_by(&mut short, b, ts, out);
     }
-    let mut long = [0u8; 65536];
+    let mut long = [0u8; LONG_MAP];
     rows_by(&mut long, b, ts, out)
 }

@@ -19,7 +19,7 @@ pub fn left(set: Ready, w: Wanted) -> Wanted
     let mut i = 0;
     while i < w.count {
         let c = w.values[i];
-        if !search::ready::has(&set.values, set.count, c) {
+        if !arith::has(&set.values, set.count, c) {
             r.values[r.count] = c;
             r.count += 1;
         }

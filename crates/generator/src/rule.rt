@@ -3,15 +3,16 @@ use constants::wanted::Wanted;
 use search::ready::Ready;
 use search::serving::Trials;
 ghost use mathlib.Core.Path.{_≡_};
-ghost use mathlib.Core.List.{List·Memᴰ};
-ghost use Prim.Native.Nat.{_/_, _≤_, _<_};
+ghost use Prim.Native.Nat.{_≤_};
 ghost use lib.ListN.{length};
 ghost use Rattle.constants.specs.Held.{kept};
-ghost use Rattle.meaning.specs.Generator.{turn as Generator·turn};
+ghost use Rattle.meaning.specs.Limits.{mostTargets};
+ghost use Rattle.meaning.specs.Graph.{ready};
+ghost use Rattle.meaning.specs.Generator.{added};
 ghost use Rattle.search.specs.Listed.{listed};
-ghost use Rattle.search.specs.Marks.{State};
-ghost use Rattle.generator.specs.Growth.{Open, Grown};
-ghost use Rattle.generator.specs.Rule.{AllServable, firstMarked, Picked, NoneNear};
+ghost use Rattle.search.specs.Marks.{longLimit};
+ghost use Rattle.generator.specs.Growth.{drawnRows, Open, Grown};
+ghost use Rattle.generator.specs.Rule.{AllServable, firstMarked, Pickable, Picked};
 
 // The smallest constant that one operation reaches.
 pub enum Near {
@@ -27,7 +28,7 @@ pub enum Chosen {
 
 // Step A's constant.
 fn nearest(map: &[u8], w: Wanted) -> Near
-    requires { ⌜ (w .count ≤ 16) × ((c : _) → List·Memᴰ c (kept w) → c / 2 < length (now map)) ⌝ }
+    requires { ⌜ w .count ≤ mostTargets ⌝ }
     ensures { λ r. ⌜ r ≡ firstMarked (now (map .entry)) (kept w) ⌝ }
 {
     let mut i = 0;
@@ -41,16 +42,18 @@ fn nearest(map: &[u8], w: Wanted) -> Near
     Near::Nothing
 }
 
+// As many trials as there are candidates under any limit.
+const ALL_TRIALS: u32 = 65535;
+
 // Step B's constant and value.
 fn pick(map: &[u8], limit: u32, set: Ready, w: Wanted) -> Chosen
-    requires { ⌜ State limit (now map) (set .values) (set .count) × (limit ≤ 17) × (w .count ≤ 16) × AllServable limit (kept w)
-        × NoneNear limit (listed set) (kept w) ⌝ }
-    ensures { λ r. ⌜ Picked limit (listed set) (kept w) r ⌝ }
+    requires { ⌜ Pickable limit (now map) set (kept w) × (w .count ≤ mostTargets) ⌝ }
+    ensures { λ r. ⌜ ((before : _) → ready before ≡ listed set → Picked limit before (kept w) r) ⌝ }
 {
     let mut i = 0;
     while i < w.count {
         let c = w.values[i];
-        let choice = search::serving::choose(map, limit, &set.values, set.count, c, 65535);
+        let choice = search::serving::choose(map, limit, &set.values, set.count, c, ALL_TRIALS);
         if let Trials::At { s, tried: _ } = choice {
             return Chosen::By { c, s };
         }
@@ -61,9 +64,9 @@ fn pick(map: &[u8], limit: u32, set: Ready, w: Wanted) -> Chosen
 
 // One turn, for the constants that remain.
 pub fn turn(map: &mut [u8], limit: u32, set: Ready, out: &mut [u32], w: Wanted) -> Ready
-    requires { ⌜ Open limit set (now map) (now out) (length (Generator·turn limit (listed set) (kept w))) × (limit ≤ 17) × (w .count ≤ 16)
+    requires { ⌜ Open limit set (now map) (now out) (length (added limit (drawnRows set (now out)) (kept w))) × (limit ≤ longLimit) × (w .count ≤ mostTargets)
         × AllServable limit (kept w) ⌝ }
-    ensures { λ r. ⌜ Grown limit set (Generator·turn limit (listed set) (kept w)) r (now (map .exit)) (now (out .entry)) (now (out .exit)) ⌝ }
+    ensures { λ r. ⌜ Grown limit set (added limit (drawnRows set (now (out .entry))) (kept w)) r (now (map .exit)) (now (out .entry)) (now (out .exit)) ⌝ }
 {
     if w.count == 0 {
         return set;

@@ -1,15 +1,15 @@
 -- The rows of a slice of words: by index, one more at the end, and back from rows; the values of valid rows. Assumes nothing.
-use mathlib.Core.Path.{_≡_, refl, ap, _∙_, subst, subst⁻¹}
-use mathlib.Core.List.{List, [], _∷_, _++_, append-nil, append-assoc, map-append, List·Memᴰ, List·Memᴰ·not-nil, List·Memᴰ·cases-cons}
+use mathlib.Core.Path.{_≡_, refl, sym, ap, ap₂, _∙_, subst, subst⁻¹}
+use mathlib.Core.List.{List, [], _∷_, _++_, append-nil, append-assoc, map, map-append, List·Memᴰ, List·Memᴰ·not-nil, List·Memᴰ·cases-cons}
 use mathlib.Core.Logic.{⊎-elim}
 use Prim.Native.Nat.{ℕ, zero, suc, _+_, _*_, _%_, _^_, _≤_, _<_}
 use native.Mathlib.Decide.{decLt}
 use native.Mathlib.Omega.{arith}
 use lib.Dec.{T, ltb, ltb→lt, lt→ltb}
-use lib.ListN.{length, getD, take, drop}
-use lib.Seq.{getD-drop, take-at}
+use lib.ListN.{length, getD, take, drop, length-append, length-drop}
+use lib.Seq.{getD-drop, take-at, take-suc, take-add}
 use Rattle.meaning.specs.declared.Row.{Row}
-use Rattle.meaning.specs.Basics.{over}
+use Rattle.meaning.specs.Basics.{upFrom, over, overAt}
 use Rattle.meaning.specs.Graph.{rowLength, words, rowAt, rowAfter, rows, flat, values, ready, Fits, fits?, Sound}
 use Rattle.laws.proofs.Tests.{both-of, of-both}
 use Rattle.laws.proofs.Operations.{exact-of, valid-of-test, test-of-valid}
@@ -98,6 +98,37 @@ pub length-flat : (xs : List Row) → length (flat xs) ≡ rowLength * length xs
 unfolding flat
 length-flat [] = refl
 length-flat (x ∷ xs) = omega (arith, length-flat xs)
+
+-- ---- rows written behind others
+
+up-snoc : (f : ℕ → ℕ) (k n : ℕ) → map f (upFrom k (suc n)) ≡ map f (upFrom k n) ++ (f (k + n) ∷ [])
+up-snoc f k zero = let e : k ≡ k + 0 = omega arith in ap (λ j. f j ∷ []) e
+up-snoc f k (suc n) = let e : suc k + n ≡ k + suc n = omega arith in ap (λ l. f k ∷ l) (up-snoc f (suc k) n ∙ ap (λ j. map f (upFrom (suc k) n) ++ (f j ∷ [])) e)
+
+take-getD : (k : ℕ) (w : List ℕ) → k ≤ length w → take k w ≡ map (λ i. getD w i 0) (upFrom 0 k)
+take-getD zero w h = refl
+take-getD (suc k) w h = take-suc w k 0 (omega arith) ∙ ap (λ l. l ++ (getD w k 0 ∷ [])) (take-getD k w (omega arith)) ∙ sym (up-snoc (λ i. getD w i 0) 0 k ∙ ap (λ j. map (λ i. getD w i 0) (upFrom 0 k) ++ (getD w j 0 ∷ [])) (omega arith))
+
+-- the words of the first n rows
+flat-rows : (n : ℕ) (w : List ℕ) → rowLength * n ≤ length w → take (rowLength * n) w ≡ flat (rows n w)
+unfolding rows flat
+flat-rows zero w h = refl
+flat-rows (suc n) w h =
+    let e : rowLength * suc n ≡ rowLength + rowLength * n = omega arith in
+    ap (λ k. take k w) e
+    ∙ take-add rowLength (rowLength * n) w
+    ∙ ap₂ _++_ (take-getD rowLength w (omega arith)) (flat-rows n (drop rowLength w) (omega (arith, length-drop rowLength w)))
+
+-- the rows of a slice with others written behind its first n
+pub rows-written : (n : ℕ) (w : List ℕ) (xs : List Row) → rowLength * n ≤ length w → rows (n + length xs) (overAt (rowLength * n) (flat xs) w) ≡ rows n w ++ xs
+unfolding overAt over
+rows-written n w xs h =
+    let rest = drop (length (flat xs)) (drop (rowLength * n) w) in
+    ap₂ rows (ap (λ k. k + length xs) (sym (length-rows n w)) ∙ sym (length-append (rows n w) xs))
+    (ap (λ l. l ++ (flat xs ++ rest)) (flat-rows n w h)
+    ∙ sym (append-assoc (flat (rows n w)) (flat xs) rest)
+    ∙ ap (λ l. l ++ rest) (sym (flat-append (rows n w) xs)))
+    ∙ rows-flat (rows n w ++ xs) rest
 
 -- ---- valid rows
 

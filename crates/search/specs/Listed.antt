@@ -31,7 +31,7 @@ pub record Started (r : Ready) : Type 0 where
   pub one : r .count ≡ 1
   pub list : listed r ≡ 1 ∷ []
 
--- where there was mostReady, the list is longer by v
+-- where there was room, the list is longer by v
 pub record Added (old : Ready) (v : ℕ) (new : Ready) : Type 0 where
   pub is : new ≡ grown old v
   pub fit : Fit old → Fit new

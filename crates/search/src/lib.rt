@@ -4,7 +4,9 @@ pub mod serving;
 
 // The bytes of both maps, and up to which limit the short one serves: 2^13 is 2 × 4096.
 pub const SHORT_MAP: usize = 4096;
+
 pub const LONG_MAP: usize = 65536;
+
 const SHORT_LIMIT: u32 = 13;
 
 ghost use mathlib.Core.Path.{_≡_};

@@ -71,8 +71,7 @@ beyond-zero-requires c κs =
     let a = t .before .before .before .before .args in
     let q = asked t in
     let m : 2 ^ a .b ≤ 2 ^ limit (a .b) = pow-mono {i = a .b} {j = limit (a .b)} (omega arith) in
-    rw (c .limit .ensures)
-    (
+    rw (c .limit .ensures) (
       omega (arith, q .bits),
       ready (a .b) (a .vals .now) (a .c) q,
       (q .target .0, omega (arith, q .target .1)),

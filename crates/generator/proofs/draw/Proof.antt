@@ -7,11 +7,11 @@ use borrow.Author.Needs.{needs}
 use lib.ListN.{length}
 use lib.Seq.{length-take-le}
 use Rattle.meaning.specs.Limits.{mostRows}
-use Rattle.meaning.specs.Generator.{remaining, turn}
+use Rattle.meaning.specs.Generator.{remaining, added}
 use Rattle.laws.proofs.Remaining.{remaining-in}
 use Rattle.constants.specs.Held.{kept}
 use Rattle.search.specs.Listed.{listed}
-use Rattle.generator.specs.Growth.{Open, Grown}
+use Rattle.generator.specs.Growth.{drawnRows, Open, Grown}
 use Rattle.generator.specs.Rule.{AllServable}
 use Rattle.generator.proofs.Turns.{started-open, Turned, turned-start, turned-open, turned-more, turned-end, from-front}
 use Rattle.generator.proofs.draw.Statement.{statement}
@@ -26,28 +26,28 @@ abbrev μ-loop : tie.MeasureT-loop
 
 -- as many constants as are counted
 its-length : (c : tie.Start Inv-loop μ-loop) → length (kept (c .args .w)) ≡ c .args .w .count
-its-length c = let p : length (c .args .w .values) ≡ 16 = search needs in length-take-le (c .args .w .count) (c .args .w .values) (omega (arith, c .pre .3))
+its-length c = let p : length (c .args .w .values) ≡ 16 = search needs in length-take-le (c .args .w .count) (c .args .w .values) (omega (arith, c .pre .1))
 
 opened : (c : tie.After-start Inv-loop μ-loop) → let a = c .before .before .before .before .args in Open (a .limit) (c .start .result) (c .start .last .0) (a .out .now) mostRows
-opened c = started-open (c .start .ensures .0) (c .start .ensures .1) (c .before .before .before .before .pre .6)
+opened c = started-open (c .start .ensures .0) (c .start .ensures .1) (c .before .before .before .before .pre .0 .words)
 
 start-requires : tie.Need-start-requires Inv-loop μ-loop
-start-requires c κs = let f = c .before .before .before in (f .pre .0, f .pre .2)
+start-requires c κs = let f = c .before .before .before in (f .pre .0 .least, f .pre .0 .state)
 
 loop-holds : tie.Need-loop-holds Inv-loop μ-loop
 loop-holds c = let d = c .before .before in (omega arith, turned-start (d .start .ensures .0) (opened d), refl, refl)
 
 left-requires : tie.Need-left-requires Inv-loop μ-loop
-left-requires c κs = c .before .before .before .before .before .before .before .before .before .before .before .pre .3
+left-requires c κs = c .before .before .before .before .before .before .before .before .before .before .before .pre .1
 
 -- what is left is servable, and the next turn has room
 next-open : (c : tie.Then1 Inv-loop μ-loop) → let t = c .before .before in let a = t .before .before .before .before .before .before .before .args in
-    Open (a .limit) (t .loop .set) (t .loop .map) (t .loop .out) (length (turn (a .limit) (listed (t .loop .set)) (remaining (listed (t .loop .set)) (kept (a .w)))))
+    Open (a .limit) (t .loop .set) (t .loop .map) (t .loop .out) (length (added (a .limit) (drawnRows (t .loop .set) (t .loop .out)) (remaining (listed (t .loop .set)) (kept (a .w)))))
 next-open c =
     let t = c .before .before in
     let d = t .before .before .before in
     let f = d .before .before .before .before in
-    turned-open (d .start .ensures .0) (opened d) (t .loop .inv .1) (omega (arith, its-length f, c .if1 .taken)) (f .pre .5)
+    turned-open (d .start .ensures .0) (opened d) (t .loop .inv .1) (omega (arith, its-length f, c .if1 .taken)) (f .pre .0 .few)
 
 turn-requires : tie.Need-turn-requires Inv-loop μ-loop
 turn-requires c κs =
@@ -55,10 +55,10 @@ turn-requires c κs =
     let t = n .before .before in
     let f = t .before .before .before .before .before .before .before in
     let e = c .left .ensures .list in (
-      subst⁻¹ (λ (cs : List ℕ). Open (f .args .limit) (t .loop .set) (t .loop .map) (t .loop .out) (length (turn (f .args .limit) (listed (t .loop .set)) cs))) e (next-open n),
-      f .pre .1,
+      subst⁻¹ (λ (cs : List ℕ). Open (f .args .limit) (t .loop .set) (t .loop .map) (t .loop .out) (length (added (f .args .limit) (drawnRows (t .loop .set) (t .loop .out)) cs))) e (next-open n),
+      f .pre .0 .most,
       c .left .ensures .bound,
-      subst⁻¹ (AllServable (f .args .limit)) e (λ k i. f .pre .4 k (remaining-in _ _ k i .0)),
+      subst⁻¹ (AllServable (f .args .limit)) e (λ k i. f .pre .0 .servable k (remaining-in _ _ k i .0)),
     )
 
 add-k : tie.Need-add-k Inv-loop μ-loop
@@ -77,8 +77,8 @@ loop-again c =
     let f = d .before .before .before .before in
     let h : t .loop .k < f .args .w .count = n .if1 .taken in (
       omega arith,
-      turned-more (d .start .ensures .0) (opened d) (t .loop .inv .1) (omega (arith, its-length f))
-          (subst (λ (cs : List ℕ). Grown (f .args .limit) (t .loop .set) (turn (f .args .limit) (listed (t .loop .set)) cs) (u .turn .result) (u .turn .last .0) (t .loop .out) (u .turn .last .1 .1 .1 .0)) (l .left .ensures .list) (u .turn .ensures)),
+      turned-more (d .start .ensures .0) (opened d) (t .loop .inv .1) (omega (arith, its-length f)) (f .pre .0 .few)
+          (subst (λ (cs : List ℕ). Grown (f .args .limit) (t .loop .set) (added (f .args .limit) (drawnRows (t .loop .set) (t .loop .out)) cs) (u .turn .result) (u .turn .last .0) (t .loop .out) (u .turn .last .1 .1 .1 .0)) (l .left .ensures .list) (u .turn .ensures)),
       c .before .before .before .map2 .given ∙ t .loop .inv .2,
       c .before .out .given ∙ t .loop .inv .3,
     )

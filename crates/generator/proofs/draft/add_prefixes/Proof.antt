@@ -10,9 +10,8 @@ use Rattle.laws.proofs.Choices.{getD-in}
 use Rattle.digits.specs.declared.Prefixes.{Prefixes}
 use Rattle.digits.specs.Held.{nothing, prefixesHeld}
 use Rattle.digits.proofs.Laws.{held-count, held-at}
-use Rattle.search.specs.Listed.{listed}
 use Rattle.search.specs.Marks.{Odd}
-use Rattle.generator.specs.Growth.{Open, Grown, prefixRows}
+use Rattle.generator.specs.Growth.{drawnRows, Open, Grown, prefixRows}
 use Rattle.generator.proofs.DraftLaws.{Part, part-start, part-open, part-more, part-end}
 use Rattle.generator.proofs.draft.add_prefixes.Statement.{statement}
 use Rattle.generator.proofs.draft.add_prefixes.Tie as tie
@@ -59,7 +58,7 @@ add-prefix-requires c κs =
     let t = c .before .before .before in
     let f = t .before .before .before .before .before in
     let e = its-place (t .before .before) (t .before .loop .i) (inside t) in
-    subst⁻¹ (λ (p : Prefix). Open (f .args .limit) (t .before .loop .more) (t .before .loop .map) (t .before .loop .out) (length (prefixRows (listed (t .before .loop .more)) p)) × Odd (f .args .limit) (p .value)) e
+    subst⁻¹ (λ (p : Prefix). Open (f .args .limit) (t .before .loop .more) (t .before .loop .map) (t .before .loop .out) (length (prefixRows (drawnRows (t .before .loop .more) (t .before .loop .out)) p)) × Odd (f .args .limit) (p .value)) e
     (part-open (f .pre .0) (t .before .loop .inv .1) nothing (inside t), f .pre .1 .steps _ (getD-in (prefixes (f .args .c)) (t .before .loop .i) nothing (inside t)))
 
 add-i : tie.Need-add-i Inv-loop μ-loop
@@ -77,7 +76,7 @@ loop-again c =
     let g = d .add-prefix .ensures in (
       omega (arith, inside t),
       part-more (f .pre .0) (t .before .loop .inv .1) nothing (inside t)
-          (subst (λ (p : Prefix). Grown (f .args .limit) (t .before .loop .more) (prefixRows (listed (t .before .loop .more)) p) (d .add-prefix .result) (d .add-prefix .last .0) (t .before .loop .out) (d .add-prefix .last .1 .1 .1 .0)) e g),
+          (subst (λ (p : Prefix). Grown (f .args .limit) (t .before .loop .more) (prefixRows (drawnRows (t .before .loop .more) (t .before .loop .out)) p) (d .add-prefix .result) (d .add-prefix .last .0) (t .before .loop .out) (d .add-prefix .last .1 .1 .1 .0)) e g),
       c .before .before .before .map .given ∙ t .before .loop .inv .2,
       c .before .out .given ∙ t .before .loop .inv .3,
     )

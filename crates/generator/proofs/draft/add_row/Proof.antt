@@ -13,9 +13,6 @@ added c = c .with .ensures
 sub-put-row : tie.Need-sub-put-row
 sub-put-row c = search needs
 
-mul-put-row : tie.Need-mul-put-row
-mul-put-row c = search needs
-
 put-row-requires : tie.Need-put-row-requires
 put-row-requires c κs = search needs
 
@@ -43,7 +40,6 @@ add-row-spec =
     tie.close
     (tie.spec
     sub-put-row
-    mul-put-row
     put-row-requires
     add-requires
     with-requires

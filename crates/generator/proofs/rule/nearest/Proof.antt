@@ -7,7 +7,7 @@ use native.Mathlib.Omega.{arith}
 use borrow.Author.Needs.{needs}
 use lib.ListN.{length, getD, drop, drop-of-length-le}
 use Rattle.constants.specs.Held.{kept}
-use Rattle.constants.proofs.Kept.{kept-in, kept-next, kept-end}
+use Rattle.constants.proofs.Kept.{kept-next, kept-end}
 use Rattle.generator.specs.Rule.{firstMarked}
 use Rattle.generator.proofs.RuleLaws.{marked-hit, marked-miss, marked-end}
 use Rattle.generator.proofs.rule.nearest.Statement.{statement}
@@ -29,7 +29,7 @@ next c =
     let s = c .before in
     let st = s .before .before in
     s .loop .inv .1
-    ∙ ap (firstMarked (st .args .map .now)) (kept-next (st .args .t2) (s .loop .i) (places st) (st .pre .0) (c .loop-test .taken))
+    ∙ ap (firstMarked (st .args .map .now)) (kept-next (st .args .t2) (s .loop .i) (places st) (st .pre) (c .loop-test .taken))
 
 loop-holds : tie.Need-loop-holds Inv-loop μ-loop
 loop-holds c = (omega arith, refl)
@@ -41,10 +41,7 @@ element-copy-out-c : tie.Need-element-copy-out-c Inv-loop μ-loop
 element-copy-out-c c = search needs
 
 reached-requires : tie.Need-reached-requires Inv-loop μ-loop
-reached-requires c κs =
-    let s = c .before .before in
-    let st = s .before .before in
-    st .pre .1 _ (kept-in (st .args .t2) (s .loop .i) (places st) (st .pre .0) (c .before .loop-test .taken))
+reached-requires c κs = search needs
 
 returns : tie.Need-returns Inv-loop μ-loop
 returns c =

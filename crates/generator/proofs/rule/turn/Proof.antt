@@ -1,6 +1,6 @@
 -- `turn` meets its contract: step A where the map has a constant, else step B where one has a choice, else step C for the first. Assumes nothing.
 use mathlib.Core.Path.{_≡_, sym, ap, _∙_, subst, subst⁻¹}
-use mathlib.Core.List.{List, [], _∷_, _++_}
+use mathlib.Core.List.{List, _++_}
 use mathlib.Core.Option.{none}
 use Prim.Native.Nat.{ℕ}
 use native.Mathlib.Omega.{arith}
@@ -8,78 +8,90 @@ use borrow.Author.Needs.{needs}
 use lib.ListN.{length, getD}
 use Rattle.meaning.specs.declared.Row.{Row}
 use Rattle.meaning.specs.Digits.{prefixes}
-use Rattle.meaning.specs.Graph.{values}
-use Rattle.meaning.specs.Generator.{rowFor, ruleA, ruleC, turn}
+use Rattle.meaning.specs.Generator.{rowFor, ruleA, ruleC, added}
 use Rattle.constants.specs.Held.{kept}
 use Rattle.constants.proofs.Kept.{kept-at, kept-inside, kept-in, kept-nothing}
 use Rattle.search.specs.Listed.{listed}
-use Rattle.generator.specs.Growth.{Open, Grown, atMostOne}
-use Rattle.generator.proofs.DraftLaws.{grown-none, grown-then, open-on, open-less}
+use Rattle.generator.specs.Growth.{drawnRows, Open, Grown, atMostOne}
+use Rattle.generator.proofs.DraftLaws.{grown-none, grown-then, drawn-more, open-on, open-less}
 use Rattle.generator.specs.declared.rule.Chosen.{Chosen}
 use Rattle.generator.specs.Rule.{Serves, Picked, NoneNear}
-use Rattle.generator.proofs.RuleLaws.{Nearest, near-inside, near-at, near-nothing, row-value, turn-none, turn-a, turn-b, turn-c, turn-two}
+use Rattle.generator.proofs.RuleLaws.{Nearest, near-at, near-nothing, added-none, added-a, added-b, added-c, added-two}
 use Rattle.generator.proofs.rule.turn.Statement.{statement}
 use Rattle.generator.proofs.rule.turn.Tie as tie
 
 places : (c : tie.Start) → length (c .args .t5 .values) ≡ 16
 places c = search needs
 
+abbrev drawn : tie.Start → List Row
+drawn f = drawnRows (f .args .set) (f .args .out .now)
+
 -- ---- step A
 
-nearest-is : (c : tie.After-c) → let a = c .before .before .before .before .before .before .before .args in Nearest (a .limit) (listed (a .set)) (kept (a .t5)) (c .c .given .0 .0)
-nearest-is c =
-    let f = c .before .before .before .before .before .before .before in
-    near-at _ _ _ _ (f .pre .0 .state) _ (f .pre .3) _ (sym (c .before .before .nearest .ensures) ∙ c .c .given .1)
+abbrev start-a : tie.After-c → tie.Start
+start-a c = c .before .before .before .before .before .before .before
 
-turned-a : (c : tie.After-c) → let a = c .before .before .before .before .before .before .before .args in
-    turn (a .limit) (listed (a .set)) (kept (a .t5)) ≡ atMostOne (rowFor (a .limit) (listed (a .set)) (c .c .given .0 .0))
-turned-a c = turn-a _ _ _ _ (nearest-is c .rows)
+nearest-is : (c : tie.After-c) → let f = start-a c in Nearest (f .args .limit) (drawn f) (kept (f .args .t5)) (c .c .given .0 .0)
+nearest-is c =
+    let f = start-a c in
+    near-at _ _ _ _ (f .pre .0 .state) _ (f .pre .0 .same) _ (f .pre .3) _ (sym (c .before .before .nearest .ensures) ∙ c .c .given .1)
+
+added-by-a : (c : tie.After-c) → let f = start-a c in
+    added (f .args .limit) (drawn f) (kept (f .args .t5)) ≡ atMostOne (rowFor (f .args .limit) (drawn f) (c .c .given .0 .0))
+added-by-a c = added-a _ _ _ _ (nearest-is c .rows)
 
 -- ---- step B
 
-none-near : (c : tie.After-enum-told) → let a = c .before .before .before .before .before .before .before .args in
-    (ruleA (a .limit) (listed (a .set)) (kept (a .t5)) ≡ none) × NoneNear (a .limit) (listed (a .set)) (kept (a .t5))
+abbrev start-b : tie.After-enum-told → tie.Start
+start-b c = c .before .before .before .before .before .before .before
+
+none-near : (c : tie.After-enum-told) → let f = start-b c in
+    (ruleA (f .args .limit) (drawn f) (kept (f .args .t5)) ≡ none) × NoneNear (f .args .limit) (listed (f .args .set)) (kept (f .args .t5))
 none-near c =
-    let f = c .before .before .before .before .before .before .before in
-    near-nothing _ _ _ _ (f .pre .0 .state) _ (f .pre .3) (sym (c .before .before .nearest .ensures) ∙ c .enum-told .given .1)
+    let f = start-b c in
+    near-nothing _ _ _ _ (f .pre .0 .state) _ (f .pre .0 .same) _ (f .pre .3) (sym (c .before .before .nearest .ensures) ∙ c .enum-told .given .1)
 
-picked-is : (c : tie.After-c2) → let a = c .before .before .before .before .before .before .before .before .before .before .before .args in Serves (a .limit) (listed (a .set)) (kept (a .t5)) (c .c2 .given .0 .0) (c .c2 .given .0 .1 .0)
+-- where step B was asked
+abbrev asked : tie.After-c2 → tie.After-enum-told
+asked c = c .before .before .before .before
+
+picked-is : (c : tie.After-c2) → let f = start-b (asked c) in Serves (f .args .limit) (drawn f) (kept (f .args .t5)) (c .c2 .given .0 .0) (c .c2 .given .0 .1 .0)
 picked-is c =
-    let a = c .before .before .before .before .before .before .before .before .before .before .before .args in
-    subst (λ (r : Chosen). Picked (a .limit) (listed (a .set)) (kept (a .t5)) r) (c .c2 .given .1) (c .before .before .pick .ensures)
+    let f = start-b (asked c) in
+    subst (λ (r : Chosen). Picked (f .args .limit) (drawn f) (kept (f .args .t5)) r) (c .c2 .given .1) (c .before .before .pick .ensures (drawn f) (sym (f .pre .0 .same)))
 
-turned-b : (c : tie.After-c2) → let a = c .before .before .before .before .before .before .before .before .before .before .before .args in
-    turn (a .limit) (listed (a .set)) (kept (a .t5))
-    ≡ atMostOne (rowFor (a .limit) (listed (a .set)) (c .c2 .given .0 .1 .0)) ++ atMostOne (rowFor (a .limit) (listed (a .set) ++ (c .c2 .given .0 .1 .0 ∷ [])) (c .c2 .given .0 .0))
-turned-b c = turn-b _ _ _ _ (none-near (c .before .before .before .before) .0) (picked-is c .rows)
+-- the row of s, and that of the constant after it
+abbrev first-row : tie.After-c2 → List Row
+first-row c = let f = start-b (asked c) in atMostOne (rowFor (f .args .limit) (drawn f) (c .c2 .given .0 .1 .0))
 
-two : (c : tie.After-c2) → let a = c .before .before .before .before .before .before .before .before .before .before .before .args in
-    length (turn (a .limit) (listed (a .set)) (kept (a .t5))) ≡ 2
-two c = turn-two _ _ _ _ _ (none-near (c .before .before .before .before) .0) (picked-is c)
+abbrev second-row : tie.After-c2 → List Row
+second-row c = let f = start-b (asked c) in atMostOne (rowFor (f .args .limit) (drawn f ++ first-row c) (c .c2 .given .0 .0))
 
--- the set after the row of s
-with-s : (c : tie.After-add-first2) → let d = c .before .before .before .before in let a = d .before .before .before .before .before .before .before .before .before .before .before .args in
-    listed (c .add-first2 .result) ≡ listed (a .set) ++ values (atMostOne (rowFor (a .limit) (listed (a .set)) (d .c2 .given .0 .1 .0)))
-with-s c = c .add-first2 .ensures .lists
+added-by-b : (c : tie.After-c2) → let f = start-b (asked c) in added (f .args .limit) (drawn f) (kept (f .args .t5)) ≡ first-row c ++ second-row c
+added-by-b c = added-b _ _ _ _ (none-near (asked c) .0) (picked-is c .rows)
 
-more-lists : (c : tie.After-add-first2) → let d = c .before .before .before .before in let a = d .before .before .before .before .before .before .before .before .before .before .before .args in
-    listed (c .add-first2 .result) ≡ listed (a .set) ++ (d .c2 .given .0 .1 .0 ∷ [])
-more-lists c =
+two : (c : tie.After-c2) → let f = start-b (asked c) in length (added (f .args .limit) (drawn f) (kept (f .args .t5))) ≡ 2
+two c = added-two _ _ _ _ _ (none-near (asked c) .0) (picked-is c)
+
+-- the rows drawn with that of s
+with-s : (c : tie.After-add-first2) → let d = c .before .before .before .before in
+    drawnRows (c .add-first2 .result) (c .add-first2 .last .1 .1 .1 .0) ≡ drawn (start-b (asked d)) ++ first-row d
+with-s c =
     let d = c .before .before .before .before in
-    let a = d .before .before .before .before .before .before .before .before .before .before .before .args in
-    with-s c ∙ ap (λ (l : List ℕ). listed (a .set) ++ l) (row-value (a .limit) (listed (a .set)) _ (picked-is d .first))
+    drawn-more _ (omega (arith, two d, picked-is d .first)) (start-b (asked d) .pre .0) (c .add-first2 .ensures)
 
 -- ---- step C
 
-turned-c : (c : tie.After-enum-told2) → let a = c .before .before .before .before .before .before .before .before .before .before .before .args in
-    turn (a .limit) (listed (a .set)) (kept (a .t5)) ≡ ruleC (listed (a .set)) (prefixes (getD (a .t5 .values) 0 0))
-turned-c c =
-    let f = c .before .before .before .before .before .before .before .before .before .before .before in
+added-by-c : (c : tie.After-enum-told2) → let f = start-b (c .before .before .before .before) in
+    added (f .args .limit) (drawn f) (kept (f .args .t5)) ≡ ruleC (drawn f) (prefixes (getD (f .args .t5 .values) 0 0))
+added-by-c c =
+    let n = c .before .before .before .before in
+    let f = start-b n in
     let a = f .args in
-    let some = c .before .before .before .before .before .before .before .before .if1 .left in
-    turn-c _ _ _ (kept-inside (a .t5) 0 (places f) (f .pre .2) (omega arith)) (none-near (c .before .before .before .before) .0)
-    (subst (λ (r : Chosen). Picked (a .limit) (listed (a .set)) (kept (a .t5)) r) (c .enum-told2 .given .1) (c .before .before .pick .ensures))
-    ∙ ap (λ (k : ℕ). ruleC (listed (a .set)) (prefixes k)) (kept-at (a .t5) 0 (omega arith))
+    let some = n .before .before .before .before .if1 .left in
+    added-c _ _ _ (kept-inside (a .t5) 0 (places f) (f .pre .2) (omega arith)) (none-near n .0)
+    (subst (λ (r : Chosen). Picked (a .limit) (drawn f) (kept (a .t5)) r) (c .enum-told2 .given .1) (c .before .before .pick .ensures (drawn f) (sym (f .pre .0 .same))))
+    ∙ ap (λ (k : ℕ). ruleC (drawn f) (prefixes k)) (kept-at (a .t5) 0 (omega arith))
 
 -- ---- the needs
 
@@ -88,12 +100,12 @@ returns c =
     let f = c .before .before .before in
     let a = f .args in
     subst⁻¹ (λ (xs : List Row). Grown (a .limit) (a .set) xs (a .set) (a .map .now) (a .out .now) (a .out .now))
-    (ap (turn (a .limit) (listed (a .set))) (kept-nothing (a .t5) (c .if1 .taken)) ∙ turn-none (a .limit) (listed (a .set))) (grown-none _ (f .pre .0))
+    (ap (added (a .limit) (drawn f)) (kept-nothing (a .t5) (c .if1 .taken)) ∙ added-none (a .limit) (drawn f)) (grown-none _ (f .pre .0))
 
 nearest-requires : tie.Need-nearest-requires
 nearest-requires c κs =
     let f = c .before .before .before .before in
-    (f .pre .2, near-inside _ _ _ _ (f .pre .0 .state) _ (f .pre .3))
+    f .pre .2
 
 enum-known-c : tie.Need-enum-known-c
 enum-known-c c = search needs
@@ -102,7 +114,7 @@ add-first-requires : tie.Need-add-first-requires
 add-first-requires c κs =
     let d = c .before .before .before in
     let f = d .before .before .before .before .before .before .before in
-    (open-less _ 1 (omega (arith, ap length (turned-a d), nearest-is d .one)) (f .pre .0), f .pre .3 _ (nearest-is d .is-in) .odd)
+    (open-less _ 1 (omega (arith, ap length (added-by-a d), nearest-is d .one)) (f .pre .0), f .pre .3 _ (nearest-is d .is-in) .odd)
 
 same-length : tie.Need-same-length
 same-length c = search needs
@@ -116,7 +128,7 @@ returns-2 c =
     let d = e .before .before .before .before in
     let a = d .before .before .before .before .before .before .before .args in
     subst⁻¹ (λ (xs : List Row). Grown (a .limit) (a .set) xs (e .add-first .result) (e .add-first .last .0) (a .out .now) (e .add-first .last .1 .1 .1 .0))
-    (turned-a d) (e .add-first .ensures)
+    (added-by-a d) (e .add-first .ensures)
 
 enum-told : tie.Need-enum-told
 enum-told c = search needs
@@ -125,7 +137,7 @@ pick-requires : tie.Need-pick-requires
 pick-requires c κs =
     let d = c .before in
     let f = d .before .before .before .before .before .before .before in
-    (f .pre .0 .state, f .pre .1, f .pre .2, f .pre .3, none-near d .1)
+    (record { state = f .pre .0 .state; limit = f .pre .1; servable = f .pre .3; far = none-near d .1 }, f .pre .2)
 
 enum-known-c-2 : tie.Need-enum-known-c-2
 enum-known-c-2 c = search needs
@@ -154,13 +166,13 @@ returns-3 c =
     let g = c .before .before .before .before in
     let e = g .before .before .before .before .before .before .before in
     let d = e .before .before .before .before in
-    let f = d .before .before .before .before .before .before .before .before .before .before .before in
+    let f = start-b (asked d) in
     let a = f .args in
     subst⁻¹ (λ (xs : List Row). Grown (a .limit) (a .set) xs (g .add-first3 .result) (g .add-first3 .last .0) (a .out .now) (g .add-first3 .last .1 .1 .1 .0))
-    (turned-b d)
+    (added-by-b d)
     (grown-then _ (f .pre .0) (e .add-first2 .ensures)
-    (subst (λ (l : List ℕ). Grown (a .limit) (e .add-first2 .result) (atMostOne (rowFor (a .limit) l (d .c2 .given .0 .0))) (g .add-first3 .result) (g .add-first3 .last .0) (e .add-first2 .last .1 .1 .1 .0) (g .add-first3 .last .1 .1 .1 .0))
-    (more-lists e) (g .add-first3 .ensures)))
+    (subst (λ (ys : List Row). Grown (a .limit) (e .add-first2 .result) (atMostOne (rowFor (a .limit) ys (d .c2 .given .0 .0))) (g .add-first3 .result) (g .add-first3 .last .0) (e .add-first2 .last .1 .1 .1 .0) (g .add-first3 .last .1 .1 .1 .0))
+    (with-s e) (g .add-first3 .ensures)))
 
 enum-told-2 : tie.Need-enum-told-2
 enum-told-2 c = search needs
@@ -174,7 +186,7 @@ add-prefixes-requires c κs =
     let f = d .before .before .before .before .before .before .before .before .before .before .before in
     let a = f .args in
     let some = d .before .before .before .before .before .before .before .before .if1 .left in (
-      subst (λ (xs : List Row). Open (a .limit) (a .set) (a .map .now) (a .out .now) (length xs)) (turned-c d) (f .pre .0),
+      subst (λ (xs : List Row). Open (a .limit) (a .set) (a .map .now) (a .out .now) (length xs)) (added-by-c d) (f .pre .0),
       f .pre .3 _ (kept-in (a .t5) 0 (places f) (f .pre .2) (omega arith)),
     )
 
@@ -190,7 +202,7 @@ returns-4 c =
     let d = e .before .before .before .before in
     let a = d .before .before .before .before .before .before .before .before .before .before .before .args in
     subst⁻¹ (λ (xs : List Row). Grown (a .limit) (a .set) xs (e .add-prefixes .result) (e .add-prefixes .last .0) (a .out .now) (e .add-prefixes .last .1 .1 .1 .0))
-    (turned-c d) (e .add-prefixes .ensures)
+    (added-by-c d) (e .add-prefixes .ensures)
 
 pub turn-spec : {M : Type 1} → statement M
 turn-spec =

@@ -3,7 +3,6 @@ use mathlib.Core.Path.{_≡_}
 use native.Mathlib.Omega.{arith}
 use borrow.Author.Needs.{needs}
 use lib.ListN.{length}
-
 use Rattle.meaning.specs.Limits.{mostReady}
 use Rattle.search.proofs.ReadyLaws.{added-full, added-room}
 use Rattle.search.proofs.ready.Ready.with.Statement.{statement}

@@ -1,21 +1,21 @@
--- `rights` meets its contract. The loop's invariant: the shifts passed give nothing, so that the answer for all is that for those left.
+-- `lefts` meets its contract. The loop's invariant: the shifts passed give nothing, so that the answer for all is that for those left.
 -- What is left of them falls. Assumes nothing.
 use Prim.Native.Nat.{_+_, _-_, _≤_}
 use native.Mathlib.Omega.{arith}
 use borrow.Author.Needs.{needs}
-use Rattle.generator.specs.Search.{signRow, rightRow}
-use Rattle.generator.proofs.FirstRowLaws.{Going, going-on, going-hit, going-end, right-start}
-use Rattle.generator.proofs.first_row.rights.Statement.{statement}
-use Rattle.generator.proofs.first_row.rights.Tie as tie
+use Rattle.generator.specs.Search.{signChoice, leftChoice}
+use Rattle.generator.proofs.FirstChoice.{Going, going-on, going-hit, going-end, left-start}
+use Rattle.generator.proofs.first_choice.lefts.Statement.{statement}
+use Rattle.generator.proofs.first_choice.lefts.Tie as tie
 
 abbrev Inv-loop : tie.InvT-loop
-Inv-loop p l₀ l = (0 ≤ l) × (l ≤ p .limit + 1) × Going (λ l. signRow p 0 l) (rightRow p) (p .limit + 1) l
+Inv-loop p l₀ l = (1 ≤ l) × (l ≤ p .limit + 1) × Going (λ l. signChoice p l 0) (leftChoice p) (p .limit + 1) l
 
 abbrev μ-loop : tie.MeasureT-loop
 μ-loop p l₀ l = p .limit + 1 - l
 
 loop-holds : tie.Need-loop-holds Inv-loop μ-loop
-loop-holds c = (omega arith, omega arith, right-start (c .args .p))
+loop-holds c = (omega arith, omega arith, left-start (c .args .p))
 
 signs-requires : tie.Need-signs-requires Inv-loop μ-loop
 signs-requires c κs = search needs
@@ -31,7 +31,7 @@ returns c =
     let f = c .before .before in
     let s = f .before .before .before in
     let a = s .before .args in
-    going-hit (λ l. signRow (a .p) 0 l) (rightRow (a .p)) (a .p .limit + 1) (s .loop .l) (s .loop .inv .2) _ _ (omega (arith, f .before .if1 .taken)) (f .signs .ensures) (c .enum-told2 .given .1)
+    going-hit (λ l. signChoice (a .p) l 0) (leftChoice (a .p)) (a .p .limit + 1) (s .loop .l) (s .loop .inv .2) _ _ (omega (arith, f .before .if1 .taken)) (f .signs .ensures) (c .enum-told2 .given .1)
 
 add-l : tie.Need-add-l Inv-loop μ-loop
 add-l c = search needs
@@ -46,17 +46,17 @@ loop-again c =
     let a = s .before .args in (
       omega (arith, s .loop .inv .0),
       omega (arith, f .before .if1 .taken),
-      going-on (λ l. signRow (a .p) 0 l) (rightRow (a .p)) (a .p .limit + 1) (s .loop .l) (s .loop .inv .2) _ (omega (arith, f .before .if1 .taken)) (f .signs .ensures) (c .enum-told .given .1),
+      going-on (λ l. signChoice (a .p) l 0) (leftChoice (a .p)) (a .p .limit + 1) (s .loop .l) (s .loop .inv .2) _ (omega (arith, f .before .if1 .taken)) (f .signs .ensures) (c .enum-told .given .1),
     )
 
 returns-2 : tie.Need-returns-2 Inv-loop μ-loop
 returns-2 c =
     let s = c .before .before in
     let a = s .before .args in
-    going-end (λ l. signRow (a .p) 0 l) (rightRow (a .p)) (a .p .limit + 1) (s .loop .l) (s .loop .inv .2) (omega (arith, c .if1 .left))
+    going-end (λ l. signChoice (a .p) l 0) (leftChoice (a .p)) (a .p .limit + 1) (s .loop .l) (s .loop .inv .2) (omega (arith, c .if1 .left))
 
-pub rights-spec : {M : Type 1} → statement M
-rights-spec =
+pub lefts-spec : {M : Type 1} → statement M
+lefts-spec =
     tie.close
     (tie.spec
     Inv-loop

@@ -2,9 +2,9 @@
 use mathlib.Core.Path.{_∙_}
 use borrow.Author.Needs.{needs}
 use Rattle.generator.specs.Search.{choiceOf}
-use Rattle.generator.proofs.FirstRowLaws.{step-first, step-second, sign-is}
-use Rattle.generator.proofs.first_row.signs.Statement.{statement}
-use Rattle.generator.proofs.first_row.signs.Tie as tie
+use Rattle.generator.proofs.FirstChoice.{step-first, step-second, sign-is}
+use Rattle.generator.proofs.first_choice.signs.Statement.{statement}
+use Rattle.generator.proofs.first_choice.signs.Tie as tie
 
 choice-requires : tie.Need-choice-requires
 choice-requires c κs = search needs

@@ -3,8 +3,8 @@ use mathlib.Core.Path.{_≡_}
 use Prim.Native.Nat.{suc, _-_}
 use native.Mathlib.Omega.{arith}
 use borrow.Author.Needs.{needs}
-use Rattle.generator.proofs.first_row.size_of.Statement.{statement}
-use Rattle.generator.proofs.first_row.size_of.Tie as tie
+use Rattle.generator.proofs.first_choice.size_of.Statement.{statement}
+use Rattle.generator.proofs.first_choice.size_of.Tie as tie
 
 shifted-requires : tie.Need-shifted-requires
 shifted-requires c κs = search needs

@@ -6,10 +6,10 @@ use borrow.Author.Needs.{needs}
 use lib.Count.{trailingZeros}
 use Rattle.meaning.specs.Basics.{zeros}
 use Rattle.laws.proofs.Zeros.{machine-is, zeros-low}
-use Rattle.generator.specs.declared.first_row.Found.the-variants.{At}
-use Rattle.generator.proofs.FirstRowLaws.{choice-miss, choice-hit}
-use Rattle.generator.proofs.first_row.choice.Statement.{statement}
-use Rattle.generator.proofs.first_row.choice.Tie as tie
+use Rattle.generator.specs.declared.first_choice.Found.the-variants.{At}
+use Rattle.generator.proofs.FirstChoice.{choice-miss, choice-hit}
+use Rattle.generator.proofs.first_choice.choice.Statement.{statement}
+use Rattle.generator.proofs.first_choice.choice.Tie as tie
 
 positive : (c : tie.Else1) → 0 < c .before .size-of .result
 positive c = omega (arith, c .if1 .left)
@@ -51,7 +51,7 @@ returns-3 c =
     let st = n .before .before in
     let a = st .args in
     let (q, h1, h2, h3, h4) = st .pre in
-    ap (λ r. At (record { u = a .p .i; v = a .p .j; l1 = a .l1; l2 = a .l2; s = a .s; r = r; value = a .p .c })) (counts n)
+    ap (λ r. At (record { u = a .p .i; v = a .p .j; l1 = a .l1; l2 = a .l2; s = a .s; r = r })) (counts n)
     ∙ choice-hit (a .p) (a .l1) (a .l2) (a .s) m (n .before .size-of .ensures) h1 h2 h3 h4 (positive n)
     (ap (λ k. m / 2 ^ k) (sym (counts n)) ∙ c .if2 .left) (q .below)
 

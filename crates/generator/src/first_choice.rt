@@ -1,15 +1,16 @@
 // The first row that makes a constant from the ready values: the first valid choice in the order u index, v index, l1, l2, s, each
 // ascending, the u index at most the v index.
-use meaning::Row;
+use meaning::Choice;
 ghost use mathlib.Core.Path.{_≡_};
 ghost use Prim.Native.Nat.{_≤_, _<_, min};
 ghost use lib.ListN.{take};
+ghost use Rattle.meaning.specs.Limits.{mostLimit};
 ghost use Rattle.meaning.specs.Operation.{size};
-ghost use Rattle.meaning.specs.Generator.{rowFor};
-ghost use Rattle.generator.specs.Search.{found, Sought, Asked, choiceOf, signRow, rightRow, leftRow, pairRow, fromRow};
+ghost use Rattle.meaning.specs.Generator.{choiceFor};
+ghost use Rattle.generator.specs.Search.{found, Sought, Asked, choiceOf, signChoice, rightChoice, leftChoice, pairChoice, fromChoice};
 
 pub enum Found {
-    At(Row),
+    At(Choice),
     Missing,
 }
 
@@ -25,7 +26,7 @@ pub struct Pair {
 
 // |n|
 fn size_of(u: u32, v: u32, l1: u32, l2: u32, s: u32) -> u64
-    requires { ⌜ (l1 ≤ 30) × (l2 ≤ 30) ⌝ }
+    requires { ⌜ (l1 ≤ mostLimit) × (l2 ≤ mostLimit) ⌝ }
     ensures { λ r. ⌜ r ≡ size u v l1 l2 s ⌝ }
 {
     let a = arith::shifted(u, l1);
@@ -49,21 +50,20 @@ fn choice(p: Pair, l1: u32, l2: u32, s: u32) -> Found
     if m >> r != p.c as u64 {
         return Found::Missing;
     }
-    Found::At(Row {
+    Found::At(Choice {
         u: p.i,
         v: p.j,
         l1,
         l2,
         s,
         r,
-        value: p.c,
     })
 }
 
 // Plus before minus.
 fn signs(p: Pair, l1: u32, l2: u32) -> Found
     requires { ⌜ Sought p × (l1 ≤ p .limit) × (l2 ≤ p .limit) × (min l1 l2 ≡ 0) ⌝ }
-    ensures { λ r. ⌜ r ≡ found (signRow p l1 l2) ⌝ }
+    ensures { λ r. ⌜ r ≡ found (signChoice p l1 l2) ⌝ }
 {
     let plus = choice(p, l1, l2, 0);
     let Found::Missing = plus else {
@@ -75,7 +75,7 @@ fn signs(p: Pair, l1: u32, l2: u32) -> Found
 // Where l1 is 0.
 fn rights(p: Pair) -> Found
     requires { ⌜ Sought p ⌝ }
-    ensures { λ r. ⌜ r ≡ found (rightRow p) ⌝ }
+    ensures { λ r. ⌜ r ≡ found (rightChoice p) ⌝ }
 {
     let mut l: u32 = 0;
     while l <= p.limit {
@@ -91,7 +91,7 @@ fn rights(p: Pair) -> Found
 // Where l1 is not, so that l2 is.
 fn lefts(p: Pair) -> Found
     requires { ⌜ Sought p ⌝ }
-    ensures { λ r. ⌜ r ≡ found (leftRow p) ⌝ }
+    ensures { λ r. ⌜ r ≡ found (leftChoice p) ⌝ }
 {
     let mut l: u32 = 1;
     while l <= p.limit {
@@ -105,9 +105,9 @@ fn lefts(p: Pair) -> Found
 }
 
 // Every pair of shifts is tried.
-fn pair_row(p: Pair) -> Found
+fn pair_choice(p: Pair) -> Found
     requires { ⌜ Sought p ⌝ }
-    ensures { λ r. ⌜ r ≡ found (pairRow p) ⌝ }
+    ensures { λ r. ⌜ r ≡ found (pairChoice p) ⌝ }
 {
     let right = rights(p);
     let Found::Missing = right else {
@@ -117,13 +117,13 @@ fn pair_row(p: Pair) -> Found
 }
 
 // The u index is i.
-fn row_from(limit: u32, ready: &[u32], n: usize, i: usize, c: u32) -> Found
+fn choice_from(limit: u32, ready: &[u32], n: usize, i: usize, c: u32) -> Found
     requires { ⌜ Asked limit (now ready) n c × (i < n) ⌝ }
-    ensures { λ r. ⌜ r ≡ found (fromRow limit (take n (now (ready .entry))) c i) ⌝ }
+    ensures { λ r. ⌜ r ≡ found (fromChoice limit (take n (now (ready .entry))) c i) ⌝ }
 {
     let mut j = i;
     while j < n {
-        let f = pair_row(Pair {
+        let f = pair_choice(Pair {
             limit,
             c,
             i: i as u32,
@@ -139,13 +139,13 @@ fn row_from(limit: u32, ready: &[u32], n: usize, i: usize, c: u32) -> Found
     Found::Missing
 }
 
-pub fn row_for(limit: u32, ready: &[u32], n: usize, c: u32) -> Found
+pub fn choice_for(limit: u32, ready: &[u32], n: usize, c: u32) -> Found
     requires { ⌜ Asked limit (now ready) n c ⌝ }
-    ensures { λ r. ⌜ r ≡ found (rowFor limit (take n (now (ready .entry))) c) ⌝ }
+    ensures { λ r. ⌜ r ≡ found (choiceFor limit (take n (now (ready .entry))) c) ⌝ }
 {
     let mut i = 0;
     while i < n {
-        let f = row_from(limit, ready, n, i, c);
+        let f = choice_from(limit, ready, n, i, c);
         let Found::Missing = f else {
             return f;
         };
