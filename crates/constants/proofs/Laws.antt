@@ -1,17 +1,20 @@
--- What the code finds of a target is what the definition says. Assumes nothing.
+-- What the code finds of a target is what the definition says, and fits signed words. Assumes nothing.
 use mathlib.Core.Path.{_≡_, refl}
 use mathlib.Core.Bool.{true, false}
-use Prim.Native.Nat.{ℕ, zero, suc, _/_, _^_, _<_}
-use native.Mathlib.Nat.{not-suc-le-zero}
+use mathlib.Core.List.{List, _∷_}
+use Prim.Native.Nat.{ℕ, zero, suc, _/_, _^_, _≤_, _<_}
+use native.Mathlib.Nat.{not-suc-le-zero, div-le-self}
 use native.Mathlib.Omega.{arith}
 use borrow.Author.Tests.{ltb-true}
 use lib.Count.{trailingZeros}
 use lib.IntN.{ℤ, pos, negsuc, natAbs}
 use lib.Signed.{ltZ}
+use mir.Syntax.{w32}
+use mir.Val.{SFits}
 use Rattle.meaning.specs.declared.Parts.{Parts}
 use Rattle.meaning.specs.Basics.{zerosIn, zeros}
 use Rattle.meaning.specs.Constants.{apart}
-use Rattle.laws.proofs.Zeros.{machine-is}
+use Rattle.laws.proofs.Zeros.{machine-is, zeros-low, zeros-left}
 
 -- the parts as code finds them from a sign and the magnitude m
 abbrev pub found : ℤ → ℕ → Parts
@@ -42,3 +45,23 @@ unfolding apart
 at-above (pos zero) h z e = absurd (z refl)
 at-above (pos (suc n)) h z e = found-is (pos 1) (suc n) (omega arith) h
 at-above (negsuc n) h z e = absurd (let q : _≡_ {A = ℕ} 0 1 = cc in omega arith)
+
+-- ---- the three words
+
+-- the odd part of -2147483648 is 1
+pub record PartsFit (p : Parts) : Type 0 where
+  pub sign : SFits w32 (p .sign)
+  pub shift : p .shift < 32
+  pub odd : p .odd < 2 ^ 31
+
+low-parts : (m : ℕ) → 0 < m → m ≤ 2 ^ 31 → (zeros m < 32) × (m / 2 ^ zeros m < 2 ^ 31)
+low-parts m p h = (zeros-low 32 m p (omega arith), omega (arith, zeros-left m p, div-le-self m (2 ^ zeros m)))
+
+pub parts-fit : (t : ℤ) → SFits w32 t → PartsFit (apart t)
+unfolding apart zeros zerosIn
+parts-fit (pos zero) h = record { sign = omega arith; shift = omega arith; odd = omega arith }
+parts-fit (pos (suc n)) h = let l = low-parts (suc n) (omega arith) (omega arith) in record { sign = omega arith; shift = l .0; odd = l .1 }
+parts-fit (negsuc n) h = let l = low-parts (suc n) (omega arith) (omega arith) in record { sign = omega arith; shift = l .0; odd = l .1 }
+
+pub three-words : {a b c x y z : ℤ} {l : List ℤ} → a ≡ x → b ≡ y → c ≡ z → a ∷ b ∷ c ∷ l ≡ x ∷ y ∷ z ∷ l
+three-words e f g = rw (e, f, g)

@@ -1,4 +1,4 @@
--- The prefixes of a number in an array of sixteen, and the last of them. Assumes nothing.
+-- The prefixes of a number in an array of sixteen, and the last of them; a form as two words with its count. Assumes nothing.
 use mathlib.Core.Bool.{cond}
 use mathlib.Core.List.{List, _++_}
 use Prim.Native.Nat.{ℕ, _+_, _-_, _/_, _%_, _^_}
@@ -6,7 +6,8 @@ use lib.Dec.{eqb}
 use lib.ListN.{length, replicate}
 use Rattle.meaning.specs.declared.Prefix.{Prefix}
 use Rattle.meaning.specs.Basics.{zeros}
-use Rattle.meaning.specs.Digits.{prefixes}
+use Rattle.meaning.specs.Digits.{Digit, nonzeros, prefixes, plusPlaces, minusPlaces}
+use Rattle.digits.specs.declared.Places.{Places}
 use Rattle.digits.specs.declared.Prefixes.{Prefixes}
 
 -- a place that holds no prefix
@@ -34,3 +35,6 @@ oddPart n = n / 2 ^ zeros n
 -- the last prefix of an odd number above 1
 unfoldable pub lastPrefix : ℕ → Prefix
 lastPrefix n = record { before = oddPart (near n); gap = zeros (near n); s = endSign n; value = n }
+
+unfoldable pub placesHeld : List Digit → Places
+placesHeld ds = record { plus = plusPlaces ds; minus = minusPlaces ds; count = nonzeros ds }

@@ -1,15 +1,25 @@
-// The canonic form of a number: how many of its digits are nonzero, and its prefixes.
+// The canonic form of a number: how many of its digits are nonzero, its prefixes, and the places of its digits.
 ghost use mathlib.Core.Path.{_≡_};
 ghost use Prim.Native.Nat.{_<_};
 ghost use lib.ListN.{length};
-ghost use Rattle.meaning.specs.Digits.{above as Digits·above, canonic, nonzeros, prefixes as Digits·prefixes};
-ghost use Rattle.digits.specs.Held.{prefixesHeld, near as Held·near, endSign, oddPart, lastPrefix};
+ghost use Rattle.meaning.specs.Digits.{above as Digits·above, canonic, nonzeros, prefixes as Digits·prefixes, formOf, minusPlaces};
+ghost use Rattle.meaning.specs.Refusals.{Done, canonicTold, canonicWritten};
+ghost use Rattle.digits.specs.Held.{prefixesHeld, near as Held·near, endSign, oddPart, lastPrefix, placesHeld};
+use meaning::Formed;
 use meaning::Prefix;
+use meaning::Refusal;
 
 // The prefixes of a number, shortest first; the places from `count` on are all zero.
 pub struct Prefixes {
     pub count: u32,
     pub list: [Prefix; 16],
+}
+
+// A form as two words, the places of its digits 1 and of its digits -1, and how many digits are nonzero.
+pub struct Places {
+    pub plus: u32,
+    pub minus: u32,
+    pub count: u32,
 }
 
 // What stands above the lowest digit.
@@ -112,4 +122,57 @@ pub fn prefixes_of(n: u32) -> Prefixes
         left = p.before;
     }
     Prefixes { count, list }
+}
+
+// The places of the digits -1: a word of less than half of n.
+fn minus_places(n: u32) -> u32
+    ensures { λ r. ⌜ r ≡ minusPlaces (canonic n) ⌝ }
+{
+    let mut minus: u64 = 0;
+    let mut power: u64 = 1;
+    let mut rest = n;
+    while rest > 0 {
+        minus += (sign(rest) as u64) * power;
+        power *= 2;
+        rest = above(rest);
+    }
+    minus as u32
+}
+
+// The form of a constant: of a negative one, that of its magnitude with the words exchanged.
+pub fn places_of(t: i32) -> Places
+    ensures { λ r. ⌜ r ≡ placesHeld (formOf t) ⌝ }
+{
+    let n = arith::magnitude(t);
+    let count = nonzero_digits(n);
+    let low = minus_places(n);
+    // n is the one word less the other
+    let high = n + low;
+    if t < 0 {
+        return Places {
+            plus: low,
+            minus: high,
+            count,
+        };
+    }
+    Places {
+        plus: high,
+        minus: low,
+        count,
+    }
+}
+
+// The two words of a constant's form over the front of `out`. Refusal 4.
+pub fn canonic_to(t: i32, out: &mut [u32]) -> Formed
+    ensures { λ r. ⌜
+        Done (canonicTold t (length (now (out .entry)))) (canonicWritten t (length (now (out .entry)))) r (now (out .entry)) (now (out .exit))
+        ⌝ }
+{
+    if out.len() < 2 {
+        return Formed::Refused(Refusal::Buffer);
+    }
+    let places = places_of(t);
+    out[0] = places.plus;
+    out[1] = places.minus;
+    Formed::Digits(places.count)
 }

@@ -18,7 +18,7 @@ use Rattle.meaning.specs.Graph.{rowLength, rows, served?}
 use Rattle.meaning.specs.Limits.{limit, mostRows}
 use Rattle.meaning.specs.Constants.{oddOf}
 use Rattle.meaning.specs.Generator.{generated}
-use Rattle.meaning.specs.Refusals.{number, placeOf, need, needEach, firstOf, bitLimit, listLength, rowCount, validRows, allServed, inputWidth, buffer, fewRows, admitOrder, checkOrder, productsOrder, widthsOrder, rankingOrder, generateOrder, distanceOrder, checked, multiplied, measured, ranked, drawn}
+use Rattle.meaning.specs.Refusals.{number, placeOf, need, needEach, firstOf, bitLimit, listLength, rowCount, validRows, allServed, inputWidth, buffer, fewRows, admitOrder, checkOrder, productsOrder, widthsOrder, rankingOrder, generateOrder, distanceOrder, checked, multiplied, measured, ranked, drawn, apartTold}
 use Rattle.laws.proofs.Graphs.{length-rows}
 use Rattle.laws.proofs.Stages.{never-both, need-accepts, need-refuses, each-refuses, rows-refuse}
 use Rattle.exports.specs.Codes.{minus, refusalCode}
@@ -182,6 +182,13 @@ module _ (b : ℕ) (ts : List ℤ) (n : ℕ) (w : List ℕ) (input room : ℕ) w
       low-first (generateOrder b ts room)
       (low-admit b ts (buffer (rowLength * mostRows) room ∷ fewRows (generated b ts) ∷ [])
       (λ _. (low-room (rowLength * mostRows) room, λ _. (low-need no.TooManyRows (leb (length (generated b ts)) mostRows ∷ []) (omega arith), λ _. tt))))
+
+pub apart-places : (room : ℕ) → Low (apartTold room)
+unfolding apartTold
+apart-places room = low-room 3 room
+
+pub canonic-places : (room : ℕ) → Low (buffer 2 room)
+canonic-places room = low-room 2 room
 
 pub distance-places : (b : ℕ) (vals : List ℕ) (c : ℕ) → Low (firstOf (distanceOrder b vals c))
 distance-places b vals c =

@@ -7,6 +7,8 @@ use Rattle.meaning.specs.declared.Drawn.{Drawn}
 use Rattle.meaning.specs.declared.Drawn.the-variants as drawn
 use Rattle.meaning.specs.declared.Far.{Far}
 use Rattle.meaning.specs.declared.Far.the-variants as far
+use Rattle.meaning.specs.declared.Formed.{Formed}
+use Rattle.meaning.specs.declared.Formed.the-variants as formed
 use Rattle.meaning.specs.declared.Printed.{Printed}
 use Rattle.meaning.specs.declared.Printed.the-variants as out
 use Rattle.meaning.specs.declared.Refusal.{Refusal}
@@ -42,3 +44,8 @@ farCode (far.Refused why) = refusalCode why
 unfoldable pub printedCode : Printed → ℤ
 printedCode (out.Bytes n) = pos n
 printedCode (out.Refused why) = refusalCode why
+
+-- of a canonic form: its nonzero digits
+unfoldable pub formedCode : Formed → ℤ
+formedCode (formed.Digits n) = pos n
+formedCode (formed.Refused why) = refusalCode why

@@ -2,13 +2,14 @@
 use meaning::Answer;
 use meaning::Drawn;
 use meaning::Far;
+use meaning::Formed;
 use meaning::Printed;
 use meaning::Refusal;
 ghost use mathlib.Core.Path.{_≡_};
 ghost use Prim.Native.Nat.{ℕ, _^_, _<_};
 ghost use Rattle.meaning.specs.declared.Answer.the-variants.{Accepted};
 ghost use Rattle.meaning.specs.declared.Printed.the-variants.{Bytes};
-ghost use Rattle.exports.specs.Codes.{minus, refusalCode, coded, drawnCode, farCode, printedCode};
+ghost use Rattle.exports.specs.Codes.{minus, refusalCode, coded, drawnCode, farCode, printedCode, formedCode};
 
 // -k
 fn negative(k: u64) -> i64
@@ -69,5 +70,15 @@ pub fn of_printed(printed: Printed) -> i64
     match printed {
         Printed::Bytes(n) => n as i64,
         Printed::Refused(why) => refused(why),
+    }
+}
+
+// The nonzero digits of a canonic form.
+pub fn of_formed(formed: Formed) -> i64
+    ensures { λ r. ⌜ r ≡ formedCode formed ⌝ }
+{
+    match formed {
+        Formed::Digits(n) => n as i64,
+        Formed::Refused(why) => refused(why),
     }
 }

@@ -7,8 +7,8 @@ ghost use mathlib.Core.Path.{_≡_};
 ghost use Prim.Native.Nat.{_+_};
 ghost use lib.ListN.{length};
 ghost use Rattle.meaning.specs.Listing.{printedTold, textWritten};
-ghost use Rattle.meaning.specs.Refusals.{Done, checked, multiplied, productsWritten, measured, widthsWritten, ranked, rankingWritten, drawnTold, rowsWritten, distanceTold};
-ghost use Rattle.exports.specs.Codes.{coded, drawnCode, farCode, printedCode};
+ghost use Rattle.meaning.specs.Refusals.{Done, checked, multiplied, productsWritten, measured, widthsWritten, ranked, rankingWritten, drawnTold, rowsWritten, distanceTold, apartTold, apartWritten, canonicTold, canonicWritten};
+ghost use Rattle.exports.specs.Codes.{coded, drawnCode, farCode, printedCode, formedCode};
 
 // The rows of the generator's rule over the front of words; answers how many they are.
 #[no_mangle]
@@ -109,4 +109,28 @@ pub extern "C" fn tauwaage_job(text: &[u8], out: &mut [u8]) -> i64
 {
     let printed = reply::answer(text, out);
     codes::of_printed(printed)
+}
+
+// A constant taken apart: sign, shift and odd part over the front of out; answers 3.
+#[no_mangle]
+pub extern "C" fn tauwaage_apart(constant: i32, out: &mut [i32]) -> i64
+    ensures { λ r. ⌜
+        Done (coded (apartTold (length (now (out .entry)))) 3)
+        (apartWritten constant (length (now (out .entry)))) r (now (out .entry)) (now (out .exit))
+        ⌝ }
+{
+    let answer = constants::apart_to(constant, out);
+    codes::of_answer(answer, 3)
+}
+
+// A constant's canonic form, the places of its digits 1 and of its digits -1, over the front of out; answers how many there are.
+#[no_mangle]
+pub extern "C" fn tauwaage_canonic(constant: i32, out: &mut [u32]) -> i64
+    ensures { λ r. ⌜
+        Done (formedCode (canonicTold constant (length (now (out .entry)))))
+        (canonicWritten constant (length (now (out .entry)))) r (now (out .entry)) (now (out .exit))
+        ⌝ }
+{
+    let formed = digits::canonic_to(constant, out);
+    codes::of_formed(formed)
 }

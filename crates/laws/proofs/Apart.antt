@@ -1,5 +1,6 @@
 -- Taking apart is exact, and unique. Assumes nothing.
 use mathlib.Core.Path.{_≡_, refl, sym, ap, ap₂, _∙_}
+use mathlib.Core.List.{[], _∷_}
 use Prim.Native.Nat.{ℕ, zero, suc, _*_, _/_, _%_, _^_, _<_}
 use native.Mathlib.Nat.{mul-comm, one-mul, mul-pos}
 use native.Mathlib.Omega.{arith}
@@ -9,7 +10,7 @@ use mathlib.Core.Logic.{_⊎_, inl, inr}
 use Rattle.laws.proofs.Integers.{abs-mul}
 use Rattle.meaning.specs.declared.Parts.{Parts}
 use Rattle.meaning.specs.Basics.{zerosIn, zeros}
-use Rattle.meaning.specs.Constants.{signOf, shiftOf, oddOf, apart}
+use Rattle.meaning.specs.Constants.{signOf, shiftOf, oddOf, apart, partWords}
 use Rattle.laws.proofs.Zeros.{zeros-whole, zeros-left, zeros-unique}
 
 -- t = sign × 2^shift × odd
@@ -62,3 +63,12 @@ apart-only t p h e =
     let (z, q) = zeros-unique (natAbs t) (p .shift) (p .odd) o n in
     let g : signOf t ≡ p .sign = ap signOf e ∙ b in
     sym (ap (λ s. build s (shiftOf t) (oddOf t)) g ∙ ap₂ (build (p .sign)) z q)
+
+-- zero, and the least number of 32 bits
+pub apart-zero : partWords (apart (pos 0)) ≡ pos 0 ∷ pos 0 ∷ pos 0 ∷ []
+unfolding apart zeros zerosIn
+apart-zero = refl
+
+pub apart-least : partWords (apart (negsuc 2147483647)) ≡ negsuc 0 ∷ pos 31 ∷ pos 1 ∷ []
+unfolding apart zeros zerosIn
+apart-least = refl

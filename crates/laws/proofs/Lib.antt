@@ -9,6 +9,7 @@ pub mod Inverse
 pub mod Graphs
 pub mod Canonic
 pub mod Count
+pub mod Places
 pub mod Prefixes
 pub mod Chain
 pub mod Stages

@@ -75,6 +75,18 @@ module _ {A : Type 0} where
   over-at-sets at vs old h =
       sets-eq vs old at h ∙ ap (λ l. take at old ++ vs ++ l) (sym (drop-drop (length vs) at old)) ∙ append-assoc (take at old) vs (drop (length vs) (drop at old))
 
+  -- a list by its front: stores to these places then compute
+  pub front-two : (d : A) (l : List A) → 2 ≤ length l → l ≡ getD l 0 d ∷ getD l 1 d ∷ drop 2 l
+  front-two d [] h = absurd (omega arith)
+  front-two d (a ∷ []) h = absurd (omega arith)
+  front-two d (a ∷ b ∷ l) h = refl
+
+  pub front-three : (d : A) (l : List A) → 3 ≤ length l → l ≡ getD l 0 d ∷ getD l 1 d ∷ getD l 2 d ∷ drop 3 l
+  front-three d [] h = absurd (omega arith)
+  front-three d (a ∷ []) h = absurd (omega arith)
+  front-three d (a ∷ b ∷ []) h = absurd (omega arith)
+  front-three d (a ∷ b ∷ c ∷ l) h = refl
+
 -- what a loop over a list writes: the members passed
 module _ {A : Type 0} where
   pub over-taken : (xs : List A) (d : A) (old : List A) (i : ℕ) → i < length xs → i < length old

@@ -3,14 +3,16 @@
 use mathlib.Core.Path.{_≡_, refl, sym, ap, _∙_}
 use mathlib.Core.Bool.{Bool, true, false, cond}
 use mathlib.Core.List.{List, [], _∷_, _++_}
-use Prim.Native.Nat.{ℕ}
+use Prim.Native.Nat.{ℕ, _≤_, _<_}
 use native.Mathlib.Omega.{arith}
+use borrow.Author.Tests.{le-leb, lt-leb}
 use lib.Dec.{T}
 use Rattle.meaning.specs.declared.Answer.{Answer}
 use Rattle.meaning.specs.declared.Answer.the-variants.{Accepted, Refused}
 use Rattle.meaning.specs.declared.Refusal.{Refusal}
+use Rattle.meaning.specs.declared.Refusal.the-variants as no
 use Rattle.meaning.specs.Basics.{all, over}
-use Rattle.meaning.specs.Refusals.{need, firstOf, Done, given}
+use Rattle.meaning.specs.Refusals.{need, buffer, firstOf, Done, given}
 use Rattle.laws.proofs.Tests.{All, all-of, of-all}
 
 -- a contract that says what an answer equals allows one answer
@@ -130,3 +132,10 @@ need-refuses why y tests e = go (all tests) e
     go : (b : Bool) → cond b Accepted (Refused why) ≡ Refused y → (b ≡ false) × (why ≡ y)
     go true e = never-both y e
     go false e = (refl, refused-same why y e)
+
+-- of a lent buffer
+pub short-room : (needed room : ℕ) → room < needed → buffer needed room ≡ Refused no.Buffer
+short-room needed room h = rw (lt-leb needed room h)
+
+pub enough-room : (needed room : ℕ) → needed ≤ room → buffer needed room ≡ Accepted
+enough-room needed room h = rw (le-leb needed room h)

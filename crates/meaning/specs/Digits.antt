@@ -1,7 +1,7 @@
--- The canonic signed-digit form, its prefixes, and condition 3's sum. Assumes nothing.
+-- The canonic signed-digit form, its prefixes, condition 3's sum, and a form as two words. Assumes nothing.
 use mathlib.Core.Path.{_≡_}
 use mathlib.Core.Bool.{cond}
-use mathlib.Core.List.{List, [], _∷_, reverse}
+use mathlib.Core.List.{List, [], _∷_, reverse, map}
 use Prim.Native.Nat.{ℕ, zero, suc, _+_, _-_, _*_, _/_, _%_, _^_, _≤_}
 use lib.Dec.{eqb}
 use lib.IntN.{ℤ, pos, negsuc, _+ℤ_, _*ℤ_}
@@ -87,3 +87,42 @@ prefixesFrom p g (minus ∷ ds) =
 -- shortest first; the highest digit alone is the prefix 1, which is always ready
 unfoldable pub prefixes : ℕ → List Prefix
 prefixes n = prefixesFrom 1 1 (drop 1 (reverse (canonic n)))
+
+-- ---- the form of a signed constant, and a form as two words
+
+-- a digit with its sign changed
+abbrev pub opposite : Digit → Digit
+opposite minus = plus
+opposite none = none
+opposite plus = minus
+
+-- the canonic form of a constant; of a negative one, the digits of its magnitude with their signs changed
+unfoldable pub formOf : ℤ → List Digit
+formOf (pos n) = canonic n
+formOf (negsuc n) = map opposite (canonic (suc n))
+
+abbrev pub isPlus : Digit → ℕ
+isPlus minus = 0
+isPlus none = 0
+isPlus plus = 1
+
+abbrev pub isMinus : Digit → ℕ
+isMinus minus = 1
+isMinus none = 0
+isMinus plus = 0
+
+-- the sum of 2 ^ place over the places whose digit counts
+unfoldable pub places : (Digit → ℕ) → List Digit → ℕ
+places counts [] = 0
+places counts (d ∷ ds) = counts d + 2 * places counts ds
+
+-- over the places that hold 1, and over those that hold -1
+abbrev pub plusPlaces : List Digit → ℕ
+plusPlaces ds = places isPlus ds
+
+abbrev pub minusPlaces : List Digit → ℕ
+minusPlaces ds = places isMinus ds
+
+-- the two words of a form
+abbrev pub formWords : List Digit → List ℕ
+formWords ds = plusPlaces ds ∷ minusPlaces ds ∷ []

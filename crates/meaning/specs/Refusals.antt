@@ -12,14 +12,17 @@ use Rattle.meaning.specs.declared.Far.{Far}
 use Rattle.meaning.specs.declared.Far.the-variants as far
 use Rattle.meaning.specs.declared.Drawn.{Drawn}
 use Rattle.meaning.specs.declared.Drawn.the-variants as out
+use Rattle.meaning.specs.declared.Formed.{Formed}
+use Rattle.meaning.specs.declared.Formed.the-variants as formed
 use Rattle.meaning.specs.declared.Row.{Row}
 use Rattle.meaning.specs.declared.Refusal.{Refusal}
 use Rattle.meaning.specs.declared.Refusal.the-variants as no
 use Rattle.meaning.specs.Basics.{all, over}
 use Rattle.meaning.specs.Limits.{between, bitTests, limit, mostTargets, mostRows, mostReady, widthTests}
-use Rattle.meaning.specs.Constants.{oddOf}
+use Rattle.meaning.specs.Constants.{oddOf, apart, partWords}
 use Rattle.meaning.specs.Graph.{rowLength, rowTests, rows, flat, values, fits?, served?}
 use Rattle.meaning.specs.Distance.{distance}
+use Rattle.meaning.specs.Digits.{nonzeros, formOf, formWords}
 use Rattle.meaning.specs.Generator.{generated}
 use Rattle.meaning.specs.Products.{targetProducts}
 use Rattle.meaning.specs.Widths.{widths, ranking}
@@ -203,3 +206,22 @@ farAs (Refused why) d = far.Refused why
 
 unfoldable pub distanceTold : ℕ → List ℕ → ℕ → Far
 distanceTold b vals c = farAs (firstOf (distanceOrder b vals c)) (distance (limit b) vals c)
+
+-- ---- a constant alone: its parts in three words, and its canonic form in two. Refused by 4 only
+
+unfoldable pub apartTold : ℕ → Answer
+apartTold room = buffer 3 room
+
+unfoldable pub apartWritten : ℤ → ℕ → List ℤ
+apartWritten t room = given (apartTold room) (partWords (apart t))
+
+abbrev pub formedAs : Answer → ℕ → Formed
+formedAs Accepted n = formed.Digits n
+formedAs (Refused why) n = formed.Refused why
+
+-- how many digits are nonzero
+unfoldable pub canonicTold : ℤ → ℕ → Formed
+canonicTold t room = formedAs (buffer 2 room) (nonzeros (formOf t))
+
+unfoldable pub canonicWritten : ℤ → ℕ → List ℕ
+canonicWritten t room = given (buffer 2 room) (formWords (formOf t))

@@ -146,3 +146,9 @@ pub enum Printed {
     Bytes(usize),
     Refused(Refusal),
 }
+
+// How many digits of the canonic form that was written are nonzero.
+pub enum Formed {
+    Digits(u32),
+    Refused(Refusal),
+}
