@@ -2,11 +2,11 @@
 -- call: targets (16), rows (128), a ready list's values (129); a job is refused in its text, and its code has no place. A contract
 -- allows one code and one content of the lent slice: `one-answer` and `one-done` (laws/proofs/Stages.antt). Assumes nothing.
 use mathlib.Core.Path.{_≡_, refl, sym, ap, ap₂, _∙_, subst}
-use mathlib.Core.Bool.{Bool, cond, _&&_}
+use mathlib.Core.Bool.{Bool, false, cond, _&&_}
 use mathlib.Core.List.{List, [], _∷_, _++_}
 use Prim.Native.Nat.{ℕ, zero, suc, _+_, _*_, _/_, _%_, _^_, _<_, _≤_}
 use native.Mathlib.Omega.{arith}
-use lib.Dec.{eqb, leb, ltb, leb→le}
+use lib.Dec.{T, eqb, leb, ltb, leb→le}
 use lib.IntN.{ℤ, pos, negℤ, natAbs}
 use lib.ListN.{length, length-append}
 use Rattle.laws.proofs.Integers.{abs-neg}
@@ -14,13 +14,14 @@ use Rattle.meaning.specs.declared.Answer.{Answer}
 use Rattle.meaning.specs.declared.Answer.the-variants.{Accepted, Refused}
 use Rattle.meaning.specs.declared.Refusal.{Refusal}
 use Rattle.meaning.specs.declared.Refusal.the-variants as no
-use Rattle.meaning.specs.Graph.{rowLength, rows, served?}
-use Rattle.meaning.specs.Limits.{limit, mostRows}
+use Rattle.meaning.specs.Graph.{rowLength, rowTests, rows, values, fits?, served?}
+use Rattle.meaning.specs.Limits.{between, bitTests, limit, mostTargets, mostRows, mostReady, widthTests}
 use Rattle.meaning.specs.Constants.{oddOf}
 use Rattle.meaning.specs.Generator.{generated}
 use Rattle.meaning.specs.Refusals.{number, placeOf, need, needEach, firstOf, bitLimit, listLength, rowCount, validRows, allServed, inputWidth, buffer, fewRows, admitOrder, checkOrder, productsOrder, widthsOrder, rankingOrder, generateOrder, distanceOrder, checked, multiplied, measured, ranked, drawn, apartTold}
 use Rattle.laws.proofs.Graphs.{length-rows}
-use Rattle.laws.proofs.Stages.{never-both, need-accepts, need-refuses, each-refuses, rows-refuse}
+use Rattle.laws.proofs.Stages.{never-both, need-accepts, need-refuses}
+use Rattle.laws.proofs.Members.{each-refuses}
 use Rattle.exports.specs.Codes.{minus, refusalCode}
 
 -- ---- number and place
@@ -98,18 +99,15 @@ low-need : (why : Refusal) (tests : List Bool) → placeOf why ≤ 129 → Low (
 low-need why tests h y e = subst (λ r. placeOf r ≤ 129) (need-refuses why y tests e .1) h
 
 -- a member's place is within its list
-within : {A : Type 0} (xs before : List A) (bad : A) (after : List A) → xs ≡ before ++ (bad ∷ after) → length before < length xs
-within xs before bad after e = let l = ap length e ∙ length-append before (bad ∷ after) in omega arith
-
-low-each : {A : Type 0} (why : ℕ → Refusal) (test : A → Bool) (xs : List A) → ((p : ℕ) → placeOf (why p) ≡ p) → length xs ≤ 129 → Low (needEach why test 1 xs)
+low-each : {A : Type 0} (why : ℕ → Refusal) (test : List A → A → Bool) (xs : List A)
+    → ((p : ℕ) → placeOf (why p) ≡ p) → length xs ≤ 129 → Low (needEach why test [] xs)
 low-each why test xs g h y e =
-    let (p, f, q) = each-refuses why test 1 xs y e in
-    subst (λ r. placeOf r ≤ 129) (sym q) (omega (arith, g (1 + p), f .place, within xs (f .before) (f .bad) (f .after) (f .split)))
-
-low-rows : (b n : ℕ) (w : List ℕ) → n ≤ mostRows → Low (validRows b (rows n w))
-low-rows b n w h y e =
-    let (p, f, q) = rows-refuse (limit b) (1 ∷ []) 1 (rows n w) y e in
-    subst (λ r. placeOf r ≤ 129) (sym q) (omega (arith, f .place, length-rows n w, within (rows n w) (f .before) (f .bad) (f .after) (f .split)))
+    let (p, f, q) = each-refuses why test (λ b x. test b x ≡ false) (λ b x t u. T-not-false t u) (λ b x u. u) xs y e in
+    subst (λ r. placeOf r ≤ 129) (sym q)
+    (omega (arith, g p, f .place, ap length (f .split), length-append (f .before) (f .there ∷ f .behind)))
+  where
+    T-not-false : {b : Bool} → T b → b ≡ false → ⊥
+    T-not-false t u = subst T u t
 
 -- stages, each looked at where those before it accept
 abbrev LowAll : List Answer → Type 0
@@ -122,34 +120,34 @@ low-first (Accepted ∷ rest) l why e = low-first rest (l .1 refl) why e
 low-first (Refused y ∷ rest) l why e = l .0 why e
 
 low-bits : (b : ℕ) → Low (bitLimit b)
-low-bits b = low-need no.Bits (leb 2 b ∷ leb b 16 ∷ []) (omega arith)
+low-bits b = low-need no.Bits (bitTests b) (omega arith)
 
 abbrev listTests : List ℤ → List Bool
-listTests ts = leb 1 (length ts) ∷ leb (length ts) 16 ∷ []
+listTests ts = between 1 mostTargets (length ts)
 
 few-targets : (ts : List ℤ) → listLength ts ≡ Accepted → length ts ≤ 129
-few-targets ts e = let q = leb→le (length ts) 16 (need-accepts no.List (listTests ts) e .1 .0) in omega arith
+few-targets ts e = let q = leb→le (length ts) mostTargets (need-accepts no.List (listTests ts) e .1 .0) in omega arith
 
 low-admit : (b : ℕ) (ts : List ℤ) (rest : List Answer) → (listLength ts ≡ Accepted → LowAll rest) → LowAll (admitOrder b ts ++ rest)
 low-admit b ts rest r = (
   low-bits b,
   λ _. (
     low-need no.List (listTests ts) (omega arith),
-    λ e. (low-each no.OddPart (λ t. ltb (oddOf t) (2 ^ b)) ts (λ p. refl) (few-targets ts e), λ _. r e),
+    λ e. (low-each no.OddPart (λ _ t. ltb (oddOf t) (2 ^ b)) ts (λ p. refl) (few-targets ts e), λ _. r e),
   ),
 )
 
-abbrev roomTests : ℕ → List ℕ → List Bool
-roomTests n w = leb n mostRows ∷ leb (rowLength * n) (length w) ∷ []
+few-rows : (n : ℕ) (w : List ℕ) → rowCount n w ≡ Accepted → length (rows n w) ≤ 129
+few-rows n w e = let q = leb→le n mostRows (need-accepts no.RowCount (rowTests n w) e .0) in omega (arith, length-rows n w)
 
 low-check : (b : ℕ) (ts : List ℤ) (n : ℕ) (w : List ℕ) (rest : List Answer) → LowAll rest → LowAll (checkOrder b ts n w ++ rest)
 low-check b ts n w rest r =
     low-admit b ts (rowCount n w ∷ validRows b (rows n w) ∷ allServed (rows n w) ts ∷ rest)
     (λ e. (
-      low-need no.RowCount (roomTests n w) (omega arith),
+      low-need no.RowCount (rowTests n w) (omega arith),
       λ f. (
-        low-rows b n w (leb→le n mostRows (need-accepts no.RowCount (roomTests n w) f .0)),
-        λ _. (low-each no.Unserved (served? (rows n w)) ts (λ p. refl) (few-targets ts e), λ _. r),
+        low-each no.Row (fits? (limit b)) (rows n w) (λ p. refl) (few-rows n w f),
+        λ _. (low-each no.Unserved (λ _ t. served? (values (rows n w)) t) ts (λ p. refl) (few-targets ts e), λ _. r),
       ),
     ))
 
@@ -157,7 +155,7 @@ low-room : (needed room : ℕ) → Low (buffer needed room)
 low-room needed room = low-need no.Buffer (leb needed room ∷ []) (omega arith)
 
 low-sized : (input needed room : ℕ) → LowAll (inputWidth input ∷ buffer needed room ∷ [])
-low-sized input needed room = (low-need no.Width (leb 2 input ∷ leb input 32 ∷ []) (omega arith), λ _. (low-room needed room, λ _. tt))
+low-sized input needed room = (low-need no.Width (widthTests input) (omega arith), λ _. (low-room needed room, λ _. tt))
 
 module _ (b : ℕ) (ts : List ℤ) (n : ℕ) (w : List ℕ) (input room : ℕ) where
   pub check-places : Low (checked b ts n w)
@@ -197,11 +195,11 @@ distance-places b vals c =
       λ _. (
         low-need (no.Ready 0) readyTests (omega arith),
         λ e. (
-          low-each no.Ready (λ v. eqb (v % 2) 1 && ltb v (2 ^ limit b)) vals (λ p. refl) (leb→le (length vals) 129 (need-accepts (no.Ready 0) readyTests e .1 .0)),
+          low-each no.Ready (λ _ v. eqb (v % 2) 1 && ltb v (2 ^ limit b)) vals (λ p. refl) (leb→le (length vals) mostReady (need-accepts (no.Ready 0) readyTests e .1 .0)),
           λ _. (low-need no.Target (eqb (c % 2) 1 ∷ ltb c (2 ^ b) ∷ []) (omega arith), λ _. tt),
         ),
       ),
     )
   where
     readyTests : List Bool
-    readyTests = leb 1 (length vals) ∷ leb (length vals) (mostRows + 1) ∷ []
+    readyTests = between 1 mostReady (length vals)
