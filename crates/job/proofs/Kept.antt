@@ -10,7 +10,8 @@ use lib.IntN.{ℤ}
 use lib.ListN.{length, set}
 use Rattle.meaning.specs.declared.Read.the-variants.{Number, Bad}
 use Rattle.meaning.specs.Text.{bytes, stands, numberAt}
-use Rattle.meaning.specs.Job.{Line, good, bad, front, numbers}
+use Rattle.meaning.specs.Forms.{Line, good, bad, front}
+use Rattle.meaning.specs.Job.{numbers}
 use Rattle.job.specs.declared.Counted.the-variants.{Listed}
 use Rattle.job.specs.Held.{targetsOf, noTargets}
 

@@ -6,16 +6,18 @@ use mathlib.Core.List.{List, [], _∷_}
 use Prim.Native.Nat.{ℕ, zero, suc, _+_, _*_, _≤_}
 use native.Mathlib.Omega.{arith}
 use lib.Dec.{eqb, leb}
-use lib.IntN.{ℤ}
-use lib.ListN.{length, take, drop}
+use lib.IntN.{ℤ, pos}
+use lib.ListN.{length, getD, take, drop}
 use lib.Seq.{sets, sets-eq, take-append-seam}
 use borrow.Author.Tests.{leb-true}
 use mir.Syntax.{w32}
 use mir.Val.{SFits}
+use Rattle.meaning.specs.declared.Head.{Head}
 use Rattle.meaning.specs.declared.Read.{Read}
 use Rattle.meaning.specs.declared.Read.the-variants.{Number, Bad}
 use Rattle.meaning.specs.Text.{bytes, stands, numberAt}
-use Rattle.meaning.specs.Job.{Asked, Job, asks, malformed, Line, good, bad, onRead, front, next, numberLine, reportLine, numbers, targetsLine, jobOf}
+use Rattle.meaning.specs.Forms.{Line, good, bad, onRead, front, lineAt, bitsForm, inputForm}
+use Rattle.meaning.specs.Job.{Asked, Job, asks, malformed, next, only, reportLine, numbers, targetsLine, jobOf}
 use Rattle.laws.proofs.Numerals.{number-read}
 use Rattle.laws.proofs.Texts.{stands-within}
 use Rattle.job.specs.declared.Asks.the-variants.{Wants, Malformed}
@@ -39,30 +41,26 @@ front-line : (z : ℤ) (l : Line (List ℤ)) {zs : List ℤ} {q : ℕ} → front
 front-line z (good ys p) e = (ys, cc, cc)
 front-line z bad e = no-line e
 
-number-fits : (name s : List ℕ) (at : ℕ) (z : ℤ) (q : ℕ) → numberLine name s at ≡ good z q → SFits w32 z
-unfolding numberLine
-number-fits name s at z q e =
-    let (t, f) = cond-line (stands name s at) _ e in
-    let (y, p, r, g) = read-line (numberAt s (at + length name)) _ f in
-    let (u, h) = cond-line (stands (bytes "\n") s p) _ g in
-    let i : y ≡ z = cc in
-    subst (SFits w32) i (number-read s (at + length name) y p r .1)
-
--- numbers that were read from a place of a text up to another: two bytes each
+-- numbers that were read from a place of a text up to another: two bytes each, and in range
 record Run (s : List ℕ) (at : ℕ) (zs : List ℤ) (q : ℕ) : Type 0 where
   taken : at + 2 * length zs ≤ q
   inside : q ≤ length s
+  fit : (k : ℕ) → SFits w32 (getD zs k (pos 0))
 
 run-more : (s : List ℕ) (at : ℕ) (z : ℤ) (p : ℕ) (ys : List ℤ) (q : ℕ) → numberAt s at ≡ Number z p → Run s (p + 1) ys q → Run s at (z ∷ ys) q
 run-more s at z p ys q e w =
-    let l = number-read s at z p e .0 in
+    let (l, f) = number-read s at z p e in
     let h = w .taken in
-    record { taken = omega arith; inside = w .inside }
+    record { taken = omega arith; inside = w .inside; fit = cons }
+  where
+    cons : (k : ℕ) → SFits w32 (getD (z ∷ ys) k (pos 0))
+    cons zero = number-read s at z p e .1
+    cons (suc k) = w .fit k
 
 run-none : (s : List ℕ) (p : ℕ) → stands (bytes "\n") s p ≡ true → Run s (p + 1) [] (p + 1)
 run-none s p e =
     let h = stands-within (bytes "\n") s p e in
-    record { taken = omega arith; inside = omega arith }
+    record { taken = omega arith; inside = omega arith; fit = λ k. record { sfits = omega arith } }
 
 -- behind a number: a comma and further numbers, or a line feed
 run-by : (s : List ℕ) (at : ℕ) (z : ℤ) (p : ℕ) (l : Line (List ℤ)) (b : Bool) (zs : List ℤ) (q : ℕ) → numberAt s at ≡ Number z p
@@ -94,7 +92,7 @@ run-line s at zs q e = let (t, f) = cond-line (stands (bytes "targets=") s at) _
         let l = stands-within (bytes "\n") s (at + 8) h in
         let i : [] ≡ zs = cc in
         let k : at + 9 ≡ q = cc in
-        subst (λ xs. Run s (at + 8) xs q) i (record { taken = omega arith; inside = omega arith })
+        subst (λ xs. Run s (at + 8) xs q) i (record { taken = omega arith; inside = omega arith; fit = λ k. record { sfits = omega arith } })
     go false h f = run-of (length s) s (at + 8) zs q f
 
 -- ---- a job that asks
@@ -113,30 +111,27 @@ next-job bad line k e = no-job e
 
 record Fits (j : Asked) : Type 0 where
   few : length (j .targets) ≤ 128
-  bits : SFits w32 (j .bits)
-  input : SFits w32 (j .input)
+  targets : (k : ℕ) → SFits w32 (getD (j .targets) k (pos 0))
 
-fits-by : (s : List ℕ) (b w : ℤ) (r : Bool) (ts : List ℤ) (p q at to : ℕ) (j : Asked) → length s ≤ 256 → numberLine (bytes "bits=") s 0 ≡ good b p
-    → numberLine (bytes "input=") s p ≡ good w q → targetsLine s at ≡ good ts to
-    → asks (record { bits = b; input = w; byWidth = r; targets = ts }) ≡ asks j → Fits j
-fits-by s b w r ts p q at to j h k l m e =
+fits-by : (s : List ℕ) (h : Head) (ts : List ℤ) (at to : ℕ) (j : Asked) → length s ≤ 256 → targetsLine s at ≡ good ts to
+    → asks (record { head = h; targets = ts }) ≡ asks j → Fits j
+fits-by s h ts at to j l m e =
     let n = run-line s at ts to m in
     let low = n .taken in
     let high = n .inside in
-    let i : _≡_ {A = Asked} (record { bits = b; input = w; byWidth = r; targets = ts }) j = cc in
-    subst Fits i
-    (record { few = omega arith; bits = number-fits (bytes "bits=") s 0 b p k; input = number-fits (bytes "input=") s p w q l })
+    let i : _≡_ {A = Asked} (record { head = h; targets = ts }) j = cc in
+    subst Fits i (record { few = omega arith; targets = n .fit })
 
 fits-of : (s : List ℕ) (j : Asked) → jobOf s ≡ asks j → Fits j
 unfolding jobOf
 fits-of s j e =
     let (h, e0) = cond-job (leb (length s) 256) _ 0 e in
-    let (b, p1, l1, e1) = next-job (numberLine (bytes "bits=") s 0) 1 _ e0 in
-    let (w, p2, l2, e2) = next-job (numberLine (bytes "input=") s p1) 2 _ e1 in
+    let (b, p1, l1, e1) = next-job (only (lineAt bitsForm s 0)) 1 _ e0 in
+    let (w, p2, l2, e2) = next-job (only (lineAt inputForm s p1)) 2 _ e1 in
     let (r, p3, l3, e3) = next-job (reportLine s p2) 3 _ e2 in
     let (ts, p4, l4, e4) = next-job (targetsLine s p3) 4 _ e3 in
-    let (f, e5) = cond-job (eqb p4 (length s)) (asks (record { bits = b; input = w; byWidth = r; targets = ts })) 5 e4 in
-    fits-by s b w r ts p1 p2 p3 p4 j (leb-true (length s) 256 h) l1 l2 l4 e5
+    let (f, e5) = cond-job (eqb p4 (length s)) (asks (record { head = record { bits = b; input = w; «by_width» = r }; targets = ts })) 5 e4 in
+    fits-by s (record { bits = b; input = w; «by_width» = r }) ts p3 p4 j (leb-true (length s) 256 h) l4 e5
 
 module _ (s : List ℕ) (j : Asked) (e : jobOf s ≡ asks j) where
   pub most-targets : length (j .targets) ≤ 128
@@ -148,18 +143,14 @@ module _ (s : List ℕ) (j : Asked) (e : jobOf s ≡ asks j) where
       let h : 0 + length ts ≤ length noTargets = omega (arith, most-targets) in
       ap (take (length ts)) (sets-eq ts noTargets 0 h) ∙ take-append-seam ts (drop (0 + length ts) noTargets)
 
-  pub bits-fit : SFits w32 (j .bits)
-  bits-fit = fits-of s j e .bits
-
-  pub input-fits : SFits w32 (j .input)
-  input-fits = fits-of s j e .input
+  pub targets-fit : (k : ℕ) → SFits w32 (getD (j .targets) k (pos 0))
+  targets-fit = fits-of s j e .targets
 
 -- ---- the job of an answer
 
-pub wants-job : (x : Job) (b w : ℤ) (r : Bool) (n : ℕ) → parsedOf x .asks ≡ Wants b w r n
-    → (j : Asked) × (x ≡ asks j) × (j .bits ≡ b) × (j .input ≡ w) × (j .byWidth ≡ r) × (length (j .targets) ≡ n)
-wants-job (asks j) b w r n e = (j, refl, cc, cc, cc, cc)
-wants-job (malformed line) b w r n e = let x : _≡_ {A = ℕ} 0 1 = cc in let y : ⊥ = omega arith in absurd y
+pub wants-job : (x : Job) (h : Head) (n : ℕ) → parsedOf x .asks ≡ Wants h n → (j : Asked) × (x ≡ asks j) × (j .head ≡ h) × (length (j .targets) ≡ n)
+wants-job (asks j) h n e = (j, refl, cc, cc)
+wants-job (malformed line) h n e = let x : _≡_ {A = ℕ} 0 1 = cc in let y : ⊥ = omega arith in absurd y
 
 pub malformed-job : (x : Job) (line : ℕ) → parsedOf x .asks ≡ Malformed line → x ≡ malformed line
 malformed-job (asks j) line e = let x : _≡_ {A = ℕ} 0 1 = cc in let y : ⊥ = omega arith in absurd y

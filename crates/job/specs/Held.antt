@@ -7,7 +7,8 @@ use lib.ListN.{length, replicate}
 use lib.Seq.{sets}
 use Rattle.meaning.specs.declared.Read.{Read}
 use Rattle.meaning.specs.declared.Read.the-variants.{Number, Bad}
-use Rattle.meaning.specs.Job.{Job, asks, malformed, Line, good, bad}
+use Rattle.meaning.specs.Forms.{Line, good, bad}
+use Rattle.meaning.specs.Job.{Job, asks, malformed}
 use Rattle.job.specs.declared.Order.{Order}
 use Rattle.job.specs.declared.Order.the-variants.{By, Neither}
 use Rattle.job.specs.declared.Counted.the-variants.{Listed, Unlisted}
@@ -34,5 +35,5 @@ targetsOf n values bad = record { read = Unlisted; values = noTargets }
 
 abbrev pub parsedOf : Job → Parsed
 parsedOf (asks j) =
-    record { asks = Wants (j .bits) (j .input) (j .byWidth) (length (j .targets)); targets = sets noTargets 0 (j .targets) }
+    record { asks = Wants (j .head) (length (j .targets)); targets = sets noTargets 0 (j .targets) }
 parsedOf (malformed line) = record { asks = Malformed line; targets = noTargets }

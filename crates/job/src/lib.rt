@@ -1,24 +1,26 @@
 // The job: its text, read line by line.
+use meaning::Head;
+use meaning::JOB_BYTES;
+use meaning::JOB_TARGETS;
 use meaning::Read;
+use text::forms::End;
 ghost use mathlib.Core.Path.{_≡_};
 ghost use lib.ListN.{length, set};
-ghost use Rattle.meaning.specs.Job.{Job, bad, jobOf, numberLine, reportLine, targetsLine, numbers as Job·numbers};
+ghost use Rattle.meaning.specs.Forms.{bad, lineAt};
+ghost use Rattle.meaning.specs.Job.{Job, jobOf, only, reportLine, targetsLine, numbers as Job·numbers};
 ghost use Rattle.job.specs.Held.{readOf, orderOf, targetsOf, noTargets, parsedOf};
 
-// A name, a number and a line feed: the number, and where the next line begins.
-fn number_line(s: &[u8], at: usize, name: &[u8]) -> Read
-    ensures { λ r. ⌜ r ≡ readOf (numberLine (now (name .entry)) (now (s .entry)) at) ⌝ }
+// The line of a form with one number: the number, and where the next line begins.
+fn number_line(s: &[u8], at: usize, form: &[u8]) -> Read
+    ensures { λ r. ⌜ r ≡ readOf (only (lineAt (now (form .entry)) (now (s .entry)) at)) ⌝ }
 {
-    if !text::stands(s, at, name) {
-        return Read::Bad;
-    }
-    let Read::Number(z, p) = text::decimal::number(s, at + name.len()) else {
+    let line = text::forms::line_at(s, at, form);
+    let end = line.end;
+    let End::At(p) = end else {
         return Read::Bad;
     };
-    if text::is(s, p, b'\n') {
-        return Read::Number(z, p + 1);
-    }
-    Read::Bad
+    let values = line.values;
+    Read::Number(values[0], p)
 }
 
 // By width or not, and where the next line begins.
@@ -48,7 +50,7 @@ enum Counted {
 // A line's targets; those that have a place are kept.
 struct Targets {
     read: Counted,
-    values: [i32; 128],
+    values: [i32; JOB_TARGETS],
 }
 
 fn none() -> Targets
@@ -56,7 +58,7 @@ fn none() -> Targets
 {
     Targets {
         read: Counted::Unlisted,
-        values: [0; 128],
+        values: [0; JOB_TARGETS],
     }
 }
 
@@ -73,7 +75,7 @@ fn numbers(s: &[u8], from: usize) -> Targets
 {
     let mut at = from;
     let mut n: usize = 0;
-    let mut values = [0i32; 128];
+    let mut values = [0i32; JOB_TARGETS];
     loop {
         let Read::Number(z, p) = text::decimal::number(s, at) else {
             return none();
@@ -102,7 +104,7 @@ fn targets_line(s: &[u8], at: usize) -> Targets
     if text::is(s, at + 8, b'\n') {
         return Targets {
             read: Counted::Listed(0, at + 9),
-            values: [0; 128],
+            values: [0; JOB_TARGETS],
         };
     }
     numbers(s, at + 8)
@@ -110,19 +112,14 @@ fn targets_line(s: &[u8], at: usize) -> Targets
 
 // What a job's text asks for, with the count of its targets, or the line at which it is malformed.
 pub enum Asks {
-    Wants {
-        bits: i32,
-        input: i32,
-        by_width: bool,
-        count: usize,
-    },
+    Wants { head: Head, count: usize },
     Malformed(u32),
 }
 
 // The targets stand in front.
 pub struct Parsed {
     pub asks: Asks,
-    pub targets: [i32; 128],
+    pub targets: [i32; JOB_TARGETS],
 }
 
 fn malformed(line: u32) -> Parsed
@@ -130,7 +127,7 @@ fn malformed(line: u32) -> Parsed
 {
     Parsed {
         asks: Asks::Malformed(line),
-        targets: [0; 128],
+        targets: [0; JOB_TARGETS],
     }
 }
 
@@ -138,13 +135,13 @@ fn malformed(line: u32) -> Parsed
 pub fn parse(s: &[u8]) -> Parsed
     ensures { λ r. ⌜ r ≡ parsedOf (jobOf (now (s .entry))) ⌝ }
 {
-    if s.len() > 256 {
+    if s.len() > JOB_BYTES {
         return malformed(0);
     }
-    let Read::Number(bits, at) = number_line(s, 0, b"bits=") else {
+    let Read::Number(bits, at) = number_line(s, 0, b"bits=#\n") else {
         return malformed(1);
     };
-    let Read::Number(input, at) = number_line(s, at, b"input=") else {
+    let Read::Number(input, at) = number_line(s, at, b"input=#\n") else {
         return malformed(2);
     };
     let Order::By(by_width, at) = report_line(s, at) else {
@@ -159,13 +156,13 @@ pub fn parse(s: &[u8]) -> Parsed
         return malformed(5);
     }
     let targets = found.values;
+    let head = Head {
+        bits,
+        input,
+        by_width,
+    };
     Parsed {
-        asks: Asks::Wants {
-            bits,
-            input,
-            by_width,
-            count,
-        },
+        asks: Asks::Wants { head, count },
         targets,
     }
 }

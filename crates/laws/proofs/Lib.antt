@@ -37,3 +37,5 @@ pub mod Numerals
 pub mod Texts
 pub mod ReadBack
 pub mod Jobs
+pub mod Forms
+pub mod Listings

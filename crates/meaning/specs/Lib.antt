@@ -11,5 +11,6 @@ pub mod Products
 pub mod Widths
 pub mod Refusals
 pub mod Text
+pub mod Forms
 pub mod Job
 pub mod Listing

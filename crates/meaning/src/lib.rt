@@ -135,6 +135,27 @@ pub enum Drawn {
     Refused(Refusal),
 }
 
+// What a job and a listing say first: the bit limit, the input width, and whether the row lines are ordered by width.
+pub struct Head {
+    pub bits: i32,
+    pub input: i32,
+    pub by_width: bool,
+}
+
+// How many bytes a job may have; each of its targets takes two of them.
+pub const JOB_BYTES: usize = 256;
+
+pub const JOB_TARGETS: usize = JOB_BYTES / 2;
+
+// How many bytes the lines above the rows, a row line and an out line take at most, and all that a job can be answered (specs/Listing.antt).
+pub const HEAD_ROOM: usize = 49;
+
+pub const ROW_LINE_ROOM: usize = 63;
+
+pub const OUT_LINE_ROOM: usize = 41;
+
+pub const TEXT_ROOM: usize = HEAD_ROOM + MOST_ROWS * ROW_LINE_ROOM + MOST_TARGETS * OUT_LINE_ROOM;
+
 // A number at a place of a text and the place behind it, or that none stands there.
 pub enum Read {
     Number(i32, usize),

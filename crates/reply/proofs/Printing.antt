@@ -1,11 +1,9 @@
 -- What the call prints: nothing into a short buffer, else a job's text over the front. Assumes nothing.
 use mathlib.Core.Path.{_≡_, sym, ap, _∙_}
-use mathlib.Core.Bool.{Bool}
 use mathlib.Core.List.{List, _++_}
 use Prim.Native.Nat.{ℕ, _+_, _≤_, _<_}
 use native.Mathlib.Omega.{arith}
 use borrow.Author.Tests.{le-leb, lt-leb}
-use lib.IntN.{ℤ}
 use lib.ListN.{length, drop}
 use lib.Seq.{sets-eq}
 use Rattle.meaning.specs.declared.Printed.the-variants as out
@@ -22,16 +20,15 @@ module _ (s : List ℕ) where
   unfolding printedTold textWritten
   print-short old h = record { answers = rw (lt-leb _ _ h); writes = rw (lt-leb _ _ h) (sym (over-none old)) }
 
-  pub print-text : (m : ℕ) (text before now : List ℕ) (n : ℕ) → textRoom ≤ length before → m ≤ textRoom → jobText s ≡ text → Wrote m before 0 text now n
+  pub print-text : (text before now : List ℕ) (n : ℕ) → textRoom ≤ length before → jobText s ≡ text → Wrote before 0 text now n
       → Done (printedTold s (length before)) (textWritten s (length before)) (out.Bytes n) before now
   unfolding printedTold textWritten over
-  print-text m text before now n h k e w =
-      let size = w .size in
+  print-text text before now n h e w =
       record {
         answers = rw (le-leb textRoom (length before) h) (ap out.Bytes (w .place ∙ zero-front (length text) ∙ ap length (sym e)));
         writes =
             rw (le-leb textRoom (length before) h)
-            (w .stored ∙ sets-eq text before 0 (omega arith) ∙ ap (λ (j : ℕ). text ++ drop j before) (zero-front (length text)) ∙ ap (λ (t : List ℕ). t ++ drop (length t) before) (sym e));
+            (w .stored ∙ sets-eq text before 0 (w .fits) ∙ ap (λ (j : ℕ). text ++ drop j before) (zero-front (length text)) ∙ ap (λ (t : List ℕ). t ++ drop (length t) before) (sym e));
       }
     where
       zero-front : (j : ℕ) → 0 + j ≡ j
@@ -44,12 +41,3 @@ module _ (s : List ℕ) where
   pub asked-text : (j : Asked) → jobOf s ≡ asks j → jobText s ≡ replyTo j
   unfolding jobText
   asked-text j e = ap answerOf e
-
--- a job by its parts
-pub same-job : (j : Asked) (b w : ℤ) (r : Bool) (ts : List ℤ) → j .bits ≡ b → j .input ≡ w → j .byWidth ≡ r → j .targets ≡ ts
-    → replyTo j ≡ replyTo (record { bits = b; input = w; byWidth = r; targets = ts })
-same-job j b w r ts e f g h =
-    ap (λ (z : ℤ). replyTo (record { bits = z; input = j .input; byWidth = j .byWidth; targets = j .targets })) e
-    ∙ ap (λ (z : ℤ). replyTo (record { bits = b; input = z; byWidth = j .byWidth; targets = j .targets })) f
-    ∙ ap (λ (z : Bool). replyTo (record { bits = b; input = w; byWidth = z; targets = j .targets })) g
-    ∙ ap (λ (z : List ℤ). replyTo (record { bits = b; input = w; byWidth = r; targets = z })) h

@@ -1,9 +1,10 @@
 // A job's bytes in, and its listing or the line of its refusal out.
-mod job_listing;
+mod drawing;
 
 use job::Asks;
 use meaning::Printed;
 use meaning::Refusal;
+use meaning::TEXT_ROOM;
 ghost use lib.ListN.{length};
 ghost use Rattle.meaning.specs.Listing.{printedTold, textWritten};
 ghost use Rattle.meaning.specs.Refusals.{Done};
@@ -15,21 +16,16 @@ pub fn answer(s: &[u8], out: &mut [u8]) -> Printed
         (now (out .entry)) (now (out .exit))
         ⌝ }
 {
-    if out.len() < 24899 {
+    if out.len() < TEXT_ROOM {
         return Printed::Refused(Refusal::Buffer);
     }
     let parsed = job::parse(s);
     let asks = parsed.asks;
     match asks {
-        Asks::Malformed(line) => Printed::Bytes(writing::lines::refused(out, Refusal::Job(line))),
-        Asks::Wants {
-            bits,
-            input,
-            by_width,
-            count,
-        } => {
+        Asks::Malformed(line) => Printed::Bytes(writing::refused(out, Refusal::Job(line))),
+        Asks::Wants { head, count } => {
             let ts = parsed.targets;
-            Printed::Bytes(job_listing::draw(out, bits, input, by_width, &ts[..count]))
+            Printed::Bytes(drawing::draw(out, head, &ts[..count]))
         }
     }
 }

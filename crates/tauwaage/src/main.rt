@@ -2,7 +2,9 @@
 use libc::STDERR_FILENO;
 use libc::STDIN_FILENO;
 use libc::STDOUT_FILENO;
+use meaning::JOB_BYTES;
 use meaning::Printed;
+use meaning::TEXT_ROOM;
 
 // A program has no exit status of its own, so what is not written is told beside it.
 fn write(bytes: &[u8]) {
@@ -23,8 +25,8 @@ fn print(text: &[u8], out: &mut [u8]) {
 
 // One byte more than a job may have shows that a text is too long, whatever its length.
 fn main() {
-    let mut text = [0u8; 257];
+    let mut text = [0u8; JOB_BYTES + 1];
     let n = io::read_full(STDIN_FILENO, &mut text);
-    let mut out = [0u8; 24899];
+    let mut out = [0u8; TEXT_ROOM];
     print(&text[..n], &mut out);
 }

@@ -1,15 +1,15 @@
 -- Condition 1 holds. Assumes nothing.
 use mathlib.Core.Path.{_≡_, refl, sym, ap, _∙_, subst}
 use mathlib.Core.Bool.{Bool, true, false, cond}
-use mathlib.Core.List.{List, [], _∷_, _++_, List·Memᴰ, List·Permᴰ, Permᴰ·refl}
+use mathlib.Core.List.{List, [], _∷_, _++_, map, List·Memᴰ, List·Permᴰ}
 use mathlib.Core.Logic.{inl, inr, ⊎-elim, _↔_}
-use Prim.Native.Nat.{ℕ, suc, _+_, _*_, _%_, _^_, _≤_, _<_}
+use Prim.Native.Nat.{ℕ, suc, _+_, _-_, _*_, _%_, _^_, _≤_, _<_}
 use native.Mathlib.Omega.{arith}
 use lib.Dec.{T, leb, ltb, eqb, leb→le, le→leb, ltb→lt, lt→ltb, eqb→eq}
 use lib.IntN.{ℤ, pos, negsuc}
 use mir.Syntax.{w32}
 use mir.Val.{SFits}
-use lib.ListN.{length}
+use lib.ListN.{length, getD}
 use Rattle.meaning.specs.declared.Answer.{Answer}
 use Rattle.meaning.specs.declared.Answer.the-variants.{Accepted, Refused}
 use Rattle.meaning.specs.declared.Drawn.the-variants as drew
@@ -26,10 +26,12 @@ use Rattle.meaning.specs.Distance.{distance, reach?, serves?, candidates}
 use Rattle.meaning.specs.Graph.{rowLength, rowTests, rows, values, Fits, fits?, served?}
 use Rattle.meaning.specs.Generator.{generated}
 use Rattle.meaning.specs.Job.{Asked, Job, asks, malformed, jobOf, jobOrder, natural}
+use Rattle.meaning.specs.Widths.{rowWidth, InOrder}
 use Rattle.meaning.specs.Listing.{rowOrder, answerOf, orRefused, replyTo, refusedLine, listing, jobText, printedTold, textWritten, textRoom}
 use Rattle.meaning.specs.Refusals.{need, needEach, number, Done, given, drawnAs, farAs, firstOf, admitOrder, checkOrder, sizedOrder, productsOrder, widthsOrder, rankingOrder, generateOrder, distanceOrder, oddParts, buffer, rowCount, validRows, allServed, fewRows, inputWidth, readyValues, target, admitted, checked, multiplied, productsWritten, measured, widthsWritten, ranked, rankingWritten, drawn, drawnTold, rowsWritten, distanceTold}
 use Rattle.laws.proofs.Tests.{All, all-of, of-all, true-of, false-of, T-of, in-every, every-in, both-of, of-both, either-of, of-left, of-right, eq→eqb}
-use Rattle.laws.proofs.Ranking.{ranking-permutes, ranking-ordered}
+use Rattle.laws.proofs.Listings.{order-permutes, ranking-any}
+use Rattle.laws.proofs.Ranking.{ranking-ordered}
 use Rattle.laws.proofs.ReadBack.{read-back}
 use Rattle.laws.proofs.Reach.{in-has, has-in}
 use Rattle.laws.proofs.Stages.{never-both, refused-same, need-refuses, one-answer, one-done, over-none}
@@ -181,8 +183,8 @@ distance-stages b vals c =
 
 job-told : (j : Asked) → Told (jobOrder j) (jobTable j)
 job-told j =
-    let b = natural (j .bits) in
-    let w = natural (j .input) in
+    let b = natural (j .head .bits) in
+    let w = natural (j .head .input) in
     let xs = generated b (j .targets) in
     told-append (admitOrder b (j .targets)) (fewRows xs ∷ inputWidth w ∷ []) (admitTable b (j .targets)) (rowsOver xs ∷ widthOut w ∷ []) (admit-told b (j .targets))
     (above no.TooManyRows (length xs) mostRows, (between no.Width 2 w 32, tt))
@@ -346,9 +348,8 @@ fits : (z : ℤ) → Signed32 z → SFits w32 z
 fits (pos n) h = record { sfits = h }
 fits (negsuc n) h = record { sfits = h }
 
-once : (byWidth : Bool) (input : ℕ) (xs : List Row) → List·Permᴰ (rowOrder byWidth input xs) (upFrom 1 (length xs))
-once true input xs = subst (λ n. List·Permᴰ (rowOrder true input xs) (upFrom 1 n)) (length-values xs) (ranking-permutes input (values xs))
-once false input xs = Permᴰ·refl (upFrom 1 (length xs))
+once : (byWidth : Bool) (xs : List Row) → List·Permᴰ (rowOrder byWidth (values xs)) (upFrom 1 (length xs))
+once byWidth xs = subst (λ n. List·Permᴰ (rowOrder byWidth (values xs)) (upFrom 1 n)) (length-values xs) (order-permutes byWidth (values xs))
 
 pub condition1 : Condition1
 condition1 =
@@ -366,8 +367,8 @@ condition1 =
       print = printed-told;
       numbers-back = λ z front rest h e. read-back z front rest (fits z h) e;
       rows-once = once;
-      rows-by-width = λ input xs. ranking-ordered input (values xs);
-      rows-by-number = λ input xs. refl;
+      rows-by-width = λ input xs. subst (InOrder (λ k. getD (map (rowWidth input) (values xs)) (k - 1) 0)) (ranking-any input (values xs)) (ranking-ordered input (values xs));
+      rows-by-number = λ xs. ap (upFrom 1) (length-values xs);
       multiply-quiet = multiply-quiet;
       measure-quiet = measure-quiet;
       rank-quiet = rank-quiet;

@@ -101,7 +101,7 @@ distanceTable b vals c = bitsOut b ∷ readyLengthOut vals ∷ readyValueOut b v
 
 abbrev pub jobTable : Asked → List Situation
 jobTable j =
-    admitTable (natural (j .bits)) (j .targets) ++ (rowsOver (generated (natural (j .bits)) (j .targets)) ∷ widthOut (natural (j .input)) ∷ [])
+    admitTable (natural (j .head .bits)) (j .targets) ++ (rowsOver (generated (natural (j .head .bits)) (j .targets)) ∷ widthOut (natural (j .head .input)) ∷ [])
 
 -- z is a signed 32-bit number; negsuc n is -(n + 1)
 abbrev pub Signed32 : ℤ → Type 0
@@ -130,9 +130,9 @@ pub record Condition1 : Type 1 where
   pub numbers-back : (z : ℤ) (front rest : List ℕ) → Signed32 z → span rest ≡ 0
       → numberAt (front ++ (textOf z ++ rest)) (length front) ≡ Number z (length front + length (textOf z))
   -- the row lines are a permutation of the rows: widest first, equal widths by lower row; or by row number
-  pub rows-once : (byWidth : Bool) (input : ℕ) (xs : List Row) → List·Permᴰ (rowOrder byWidth input xs) (upFrom 1 (length xs))
-  pub rows-by-width : (input : ℕ) (xs : List Row) → InOrder (λ k. getD (map (rowWidth input) (values xs)) (k - 1) 0) (rowOrder true input xs)
-  pub rows-by-number : (input : ℕ) (xs : List Row) → rowOrder false input xs ≡ upFrom 1 (length xs)
+  pub rows-once : (byWidth : Bool) (xs : List Row) → List·Permᴰ (rowOrder byWidth (values xs)) (upFrom 1 (length xs))
+  pub rows-by-width : (input : ℕ) (xs : List Row) → InOrder (λ k. getD (map (rowWidth input) (values xs)) (k - 1) 0) (rowOrder true (values xs))
+  pub rows-by-number : (xs : List Row) → rowOrder false (values xs) ≡ upFrom 1 (length xs)
   -- nothing is written on refusal
   pub multiply-quiet : (b : ℕ) (ts : List ℤ) (n : ℕ) (w : List ℕ) (x : ℤ) (why : Refusal) (before now : List ℤ)
       → Done (multiplied b ts n w (length before)) (productsWritten b ts n w x (length before)) (Refused why) before now → now ≡ before

@@ -1,5 +1,6 @@
-// Texts in slices of bytes: what stands at a place.
+// Texts in slices of bytes: what stands at a place, a number there, and a line of a form.
 pub mod decimal;
+pub mod forms;
 
 ghost use mathlib.Core.Path.{_≡_};
 ghost use mathlib.Core.List.{[], _∷_};

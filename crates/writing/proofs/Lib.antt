@@ -1,4 +1,3 @@
 -- The laws of writing that the crates above cite.
 pub mod Io
 pub mod Writing
-pub mod LinesLaws

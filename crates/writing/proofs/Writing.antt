@@ -1,18 +1,18 @@
--- What was written: one text after the other, how much room it took, and how long a number is. Assumes nothing.
+-- What was written: one text after the other, and the room that is left. Assumes nothing.
 use mathlib.Core.Path.{_≡_, refl, ap, _∙_, sym}
-use mathlib.Core.Bool.{Bool, true, false}
+use mathlib.Core.Bool.{true, false}
 use mathlib.Core.List.{List, [], _∷_, _++_}
-use Prim.Native.Nat.{ℕ, zero, suc, _+_, _*_, _/_, _%_, _^_, _≤_, _<_}
-use native.Mathlib.Nat.{pow-suc, mul-suc}
+use Prim.Native.Nat.{ℕ, suc, _+_, _≤_, _<_}
 use native.Mathlib.Numerals.{add-one}
 use native.Mathlib.Omega.{arith}
-use lib.Dec.{ltb}
 use lib.IntN.{ℤ, pos, negsuc, natAbs}
 use lib.ListN.{length, take, drop, set, getD, length-append}
-use lib.Seq.{sets, sets-eq, length-sets, paste, paste-suc, take-length}
+use lib.Seq.{sets, sets-eq, length-sets, paste, paste-suc, take-length, take-all}
 use lib.Signed.{ltZ}
-use borrow.Author.Tests.{ltb-true, ltb-false}
-use Rattle.meaning.specs.Text.{decimalIn, unsignedText, textOf}
+use borrow.Author.Tests.{ltb-true}
+use Rattle.meaning.specs.Forms.{piece, taken, lineOf, linesOf}
+use Rattle.meaning.specs.Text.{unsignedText, textOf}
+use Rattle.laws.proofs.Forms.{line-more, line-end, lines-more, lines-part}
 use Rattle.writing.specs.Wrote.{Wrote}
 
 -- two runs of stores are one, with no condition on the buffer's length
@@ -20,45 +20,38 @@ sets-append : (t u d : List ℕ) (a b : ℕ) → b ≡ a + length t → sets (se
 sets-append [] u d a b e = let k : b ≡ a = omega arith in ap (λ (q : ℕ). sets d q u) k
 sets-append (x ∷ t) u d a b e = sets-append t u (set d a x) (suc a) b (omega arith)
 
+-- a text leaves the buffer's length
+pub kept : {a b : ℕ} {d e t : List ℕ} → Wrote d a t e b → length e ≡ length d
+kept {a} {b} {d} {e} {t} p = ap length (p .stored) ∙ length-sets d a t
+
 infixl 5 _⨾_
 -- one text after the other
-pub _⨾_ : {m n a b c : ℕ} {d e f t u : List ℕ} → Wrote m d a t e b → Wrote n e b u f c → Wrote (m + n) d a (t ++ u) f c
-_⨾_ {m} {n} {a} {b} {c} {d} {e} {f} {t} {u} p q =
+pub _⨾_ : {a b c : ℕ} {d e f t u : List ℕ} → Wrote d a t e b → Wrote e b u f c → Wrote d a (t ++ u) f c
+_⨾_ {a} {b} {c} {d} {e} {f} {t} {u} p q =
     let k : length (t ++ u) ≡ length t + length u = length-append t u in
-    let i = p .place in let j = q .place in let g = p .size in let h = q .size in
+    let i = p .place in
+    let j = q .place in
+    let g = q .fits in
     record {
       stored = q .stored ∙ ap (λ (x : List ℕ). sets x b u) (p .stored) ∙ sets-append t u d a b (p .place);
       place = omega arith;
-      size = omega arith;
+      fits = omega (arith, kept p);
     }
 
-pub same-text : {m a b : ℕ} {d e t u : List ℕ} → t ≡ u → Wrote m d a t e b → Wrote m d a u e b
-same-text {m} {a} {b} {d} {e} {t} {u} k p =
-    record { stored = p .stored ∙ ap (sets d a) k; place = p .place ∙ ap (λ (x : List ℕ). a + length x) k; size = rw k at (p .size) }
-
-pub within : {m n a b : ℕ} {d e t : List ℕ} → Wrote m d a t e b → m ≤ n → Wrote n d a t e b
-within p h = let g = p .size in record { stored = p .stored; place = p .place; size = omega arith }
+pub same-text : {a b : ℕ} {d e t u : List ℕ} → t ≡ u → Wrote d a t e b → Wrote d a u e b
+same-text {a} {b} {d} {e} {t} {u} k p =
+    record { stored = p .stored ∙ ap (sets d a) k; place = p .place ∙ ap (λ (x : List ℕ). a + length x) k; fits = rw k at (p .fits) }
 
 -- any two allowed results are equal
-pub one-wrote : {m a b b′ : ℕ} {d e e′ t : List ℕ} → Wrote m d a t e b → Wrote m d a t e′ b′ → (e ≡ e′) × (b ≡ b′)
+pub one-wrote : {a b b′ : ℕ} {d e e′ t : List ℕ} → Wrote d a t e b → Wrote d a t e′ b′ → (e ≡ e′) × (b ≡ b′)
 one-wrote p q = (p .stored ∙ sym (q .stored), p .place ∙ sym (q .place))
 
--- a text leaves the buffer's length, and the room that it did not use
-pub kept : {m a b : ℕ} {d e t : List ℕ} → Wrote m d a t e b → length e ≡ length d
-kept {m} {a} {b} {d} {e} {t} p = ap length (p .stored) ∙ length-sets d a t
+pub nothing : (d : List ℕ) (a : ℕ) → a ≤ length d → Wrote d a [] d a
+nothing d a h = record { stored = refl; place = omega arith; fits = omega arith }
 
-pub still : {m a b : ℕ} {d e t : List ℕ} (n : ℕ) → Wrote m d a t e b → a + (m + n) ≤ length d → b + n ≤ length e
-still n p h = let k = kept p in let i = p .place in let g = p .size in omega arith
-
--- ---- loops of lines: k of them so far, none longer than s
-
-pub nothing : (d : List ℕ) (a : ℕ) → Wrote 0 d a [] d a
-nothing d a = record { stored = refl; place = omega arith; size = omega arith }
-
-pub more : {a b c : ℕ} {d e g t u : List ℕ} (s k : ℕ) → Wrote (s * k) d a t e b → Wrote s e b u g c → Wrote (s * (k + 1)) d a (t ++ u) g c
-more s k p q =
-    let h : s * (k + 1) ≡ s * k + s = ap (λ (x : ℕ). s * x) (add-one k) ∙ mul-suc s k in
-    rw h (p ⨾ q)
+-- and leaves the room for what follows it
+pub room : {a b : ℕ} {d e t : List ℕ} (u : List ℕ) → Wrote d a t e b → a + length (t ++ u) ≤ length d → b + length u ≤ length e
+room {t = t} u p h = let k = kept p in let i = p .place in let g = length-append t u in omega arith
 
 -- ---- a text, byte by byte
 
@@ -67,7 +60,7 @@ pub paste-more : (d : List ℕ) (at : ℕ) (src now : List ℕ) (i : ℕ) → no
 paste-more d at src now i e h k = rw (e, add-one) (paste-suc d at src i 0 h k)
 
 pub paste-whole : (d : List ℕ) (at : ℕ) (src now : List ℕ) (i : ℕ) → at + length src ≤ length d → now ≡ paste d at src i → i ≡ length src
-    → Wrote (length src) d at src now (at + i)
+    → Wrote d at src now (at + i)
 paste-whole d at src now i h e k =
     record {
       stored =
@@ -75,35 +68,14 @@ paste-whole d at src now i h e k =
           ∙ ap (λ (r : List ℕ). take at d ++ r ++ drop (at + length src) d) (take-length src)
           ∙ sym (sets-eq src d at h);
       place = omega arith;
-      size = omega arith;
+      fits = h;
     }
-
--- ---- how long a number is
-
-tens : (f n k : ℕ) (b : Bool) → ltb n 10 ≡ b → n < 10 ^ suc k
-    → (10 ≤ n → length (decimalIn f (n / 10)) ≤ k) → length (decimalIn (suc f) n) ≤ suc k
-tens f n k true e h i = rw e (omega arith)
-tens f n k false e h i =
-    let g = i (ltb-false n 10 e) in
-    let ds : List ℕ = decimalIn f (n / 10) in
-    let l : length (ds ++ ((48 + n % 10) ∷ [])) ≡ length ds + 1 = length-append ds ((48 + n % 10) ∷ []) in
-    rw e (omega arith)
-
-digits-size : (f k n : ℕ) → n < 10 ^ suc k → length (decimalIn f n) ≤ suc k
-digits-size zero k n h = omega arith
-digits-size (suc f) zero n h = tens f n zero (ltb n 10) refl h (λ g. let y : ⊥ = omega arith in absurd y)
-digits-size (suc f) (suc k) n h =
-    let e : 10 ^ suc (suc k) ≡ 10 ^ suc k * 10 = pow-suc 10 (suc k) in
-    tens f n (suc k) (ltb n 10) refl h (λ g. digits-size f k (n / 10) (omega arith))
-
-pub number-size : (n : ℕ) → n < 4294967296 → length (unsignedText n) ≤ 10
-unfolding unsignedText
-number-size n h = digits-size 20 9 n (omega arith)
 
 -- ---- a sign, and then the magnitude
 
-pub minus : (d : List ℕ) (at : ℕ) → Wrote 1 d at (45 ∷ []) (set d at 45) (at + 1)
-minus d at = record { stored = refl; place = refl; size = omega arith }
+-- one byte
+pub byte : (d : List ℕ) (at c : ℕ) → at < length d → Wrote d at (c ∷ []) (set d at c) (at + 1)
+byte d at c h = record { stored = refl; place = refl; fits = omega arith }
 
 pub below-text : (z : ℤ) → ltZ z (pos 0) ≡ true → textOf z ≡ 45 ∷ unsignedText (natAbs z)
 below-text (pos n) e = let h = ltb-true n 0 e in let y : ⊥ = omega arith in absurd y
@@ -112,3 +84,50 @@ below-text (negsuc n) e = refl
 pub other-text : (z : ℤ) → ltZ z (pos 0) ≡ false → textOf z ≡ unsignedText (natAbs z)
 other-text (pos n) e = refl
 other-text (negsuc n) e = let y : _≡_ {A = ℕ} 0 1 = cc in let z : ⊥ = omega arith in absurd z
+
+-- ---- a line, byte by byte of its form
+
+-- i bytes of the form, which took n numbers, are written
+pub record Begun (form : List ℕ) (zs : List ℤ) (d : List ℕ) (a : ℕ) (e : List ℕ) (b n i : ℕ) : Type 0 where
+  pub done : List ℕ
+  pub whole : lineOf form zs ≡ done ++ lineOf (drop i form) (drop n zs)
+  pub wrote : Wrote d a done e b
+
+pub begin : (form : List ℕ) (zs : List ℤ) (d : List ℕ) (a : ℕ) → a ≤ length d → Begun form zs d a d a 0 0
+begin form zs d a h = record { done = []; whole = refl; wrote = nothing d a h }
+
+module _ {form : List ℕ} {zs : List ℤ} {d : List ℕ} {a : ℕ} {e : List ℕ} {b n i : ℕ} (g : Begun form zs d a e b n i) where
+  abbrev part : List ℕ
+  part = piece (getD form i 0) (getD zs n (pos 0))
+
+  pub part-room : i < length form → a + length (lineOf form zs) ≤ length d → b + length part ≤ length e
+  part-room h k =
+      let more = line-more form zs i n (g .done) (g .whole) h in
+      let rest : List ℕ = lineOf (drop (i + 1) form) (drop (n + taken (getD form i 0)) zs) in
+      room part (g .wrote) (omega (arith, ap length more, length-append (g .done ++ part) rest))
+
+  pub part-on : {f : List ℕ} {c : ℕ} → i < length form → Wrote e b part f c → Begun form zs d a f c (n + taken (getD form i 0)) (i + 1)
+  part-on h w = record { done = g .done ++ part; whole = line-more form zs i n (g .done) (g .whole) h; wrote = g .wrote ⨾ w }
+
+  pub line-done : length form ≤ i → Wrote d a (lineOf form zs) e b
+  line-done h = same-text (line-end form zs i n (g .done) (g .whole) h) (g .wrote)
+
+-- ---- lines of one form, line by line: k of them are written
+
+pub lines-start : (form : List ℕ) (zss : List (List ℤ)) (d : List ℕ) (a : ℕ) → a ≤ length d → Wrote d a (linesOf form (take 0 zss)) d a
+unfolding linesOf
+lines-start form zss d a h = nothing d a h
+
+module _ (form : List ℕ) (zss : List (List ℤ)) {d : List ℕ} {a : ℕ} {e : List ℕ} {b : ℕ} (k : ℕ) (w : Wrote d a (linesOf form (take k zss)) e b) where
+  pub line-fits : k < length zss → a + length (linesOf form zss) ≤ length d → b + length (lineOf form (getD zss k [])) ≤ length e
+  line-fits h r = room (lineOf form (getD zss k [])) w (rw (← lines-more form zss k h) (omega (arith, lines-part form zss (k + 1))))
+
+  pub line-on : {f : List ℕ} {c : ℕ} → k < length zss → Wrote e b (lineOf form (getD zss k [])) f c → Wrote d a (linesOf form (take (k + 1) zss)) f c
+  line-on h v = same-text (sym (lines-more form zss k h)) (w ⨾ v)
+
+  pub lines-end : length zss ≤ k → Wrote d a (linesOf form zss) e b
+  lines-end h = same-text (ap (linesOf form) (take-all k zss h)) w
+
+-- what has room in front of another text has room
+pub front-fits : {n : ℕ} (a : ℕ) (t u : List ℕ) → a + length (t ++ u) ≤ n → a + length t ≤ n
+front-fits a t u h = omega (arith, length-append t u)

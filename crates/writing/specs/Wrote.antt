@@ -5,8 +5,8 @@ use Prim.Native.Nat.{ℕ, _+_, _≤_}
 use lib.ListN.{length}
 use lib.Seq.{sets}
 
--- from the buffer d and the place a to the buffer e and the place b, by a text of at most `most` bytes; nothing else of the buffer is touched
-pub record Wrote (most : ℕ) (d : List ℕ) (a : ℕ) (text : List ℕ) (e : List ℕ) (b : ℕ) : Type 0 where
+-- from the buffer d and the place a, where there is room for it, to the buffer e and the place b; nothing else of the buffer is touched
+pub record Wrote (d : List ℕ) (a : ℕ) (text : List ℕ) (e : List ℕ) (b : ℕ) : Type 0 where
   pub stored : e ≡ sets d a text
   pub place : b ≡ a + length text
-  pub size : length text ≤ most
+  pub fits : a + length text ≤ length d

@@ -1,16 +1,18 @@
-// Names and numbers written into a lent slice of bytes; each function hands back the place behind its text.
-pub mod lines;
-
-ghost use mathlib.Core.List.{_++_};
+// Texts, and lines by their forms, written at a place of a lent buffer that has room for them; each function hands back the place behind its text.
+use meaning::Refusal;
+ghost use mathlib.Core.Path.{_≡_};
 ghost use Prim.Native.Nat.{_+_, _≤_};
-ghost use lib.ListN.{length};
+ghost use lib.IntN.{pos};
+ghost use lib.ListN.{length, getD};
+ghost use Rattle.meaning.specs.Forms.{piece as Forms·piece, lineOf};
+ghost use Rattle.meaning.specs.Listing.{refusedLine, headRoom};
 ghost use Rattle.meaning.specs.Text.{unsignedText, textOf};
 ghost use Rattle.writing.specs.Wrote.{Wrote};
 
-// A text, and the place behind it.
+// A text.
 pub fn put(out: &mut [u8], at: usize, text: &[u8]) -> usize
     requires { ⌜ at + length (now text) ≤ length (now out) ⌝ }
-    ensures { λ r. ⌜ Wrote (length (now (text .entry))) (now (out .entry)) at (now (text .entry)) (now (out .exit)) r ⌝ }
+    ensures { λ r. ⌜ Wrote (now (out .entry)) at (now (text .entry)) (now (out .exit)) r ⌝ }
 {
     let mut k = 0;
     while k < text.len() {
@@ -20,40 +22,72 @@ pub fn put(out: &mut [u8], at: usize, text: &[u8]) -> usize
     at + k
 }
 
-fn natural(out: &mut [u8], at: usize, n: u32) -> usize
-    requires { ⌜ at + 10 ≤ length (now out) ⌝ }
-    ensures { λ r. ⌜ Wrote 10 (now (out .entry)) at (unsignedText n) (now (out .exit)) r ⌝ }
+fn decimal(out: &mut [u8], at: usize, n: u64) -> usize
+    requires { ⌜ at + length (unsignedText n) ≤ length (now out) ⌝ }
+    ensures { λ r. ⌜ Wrote (now (out .entry)) at (unsignedText n) (now (out .exit)) r ⌝ }
 {
     let mut text = [0u8; 20];
-    let k = io::decimal(n as u64, &mut text);
+    let k = io::decimal(n, &mut text);
     put(out, at, &text[..k])
 }
 
-fn signed(out: &mut [u8], at: usize, z: i32) -> usize
-    requires { ⌜ at + 11 ≤ length (now out) ⌝ }
-    ensures { λ r. ⌜ Wrote 11 (now (out .entry)) at (textOf z) (now (out .exit)) r ⌝ }
+fn number(out: &mut [u8], at: usize, z: i64) -> usize
+    requires { ⌜ at + length (textOf z) ≤ length (now out) ⌝ }
+    ensures { λ r. ⌜ Wrote (now (out .entry)) at (textOf z) (now (out .exit)) r ⌝ }
 {
     if z < 0 {
-        out[at] = 45;
-        return natural(out, at + 1, arith::magnitude(z));
+        out[at] = b'-';
+        return decimal(out, at + 1, arith::magnitude64(z));
     }
-    natural(out, at, arith::magnitude(z))
+    decimal(out, at, arith::magnitude64(z))
 }
 
-// A name and a number.
-pub fn field(out: &mut [u8], at: usize, name: &[u8], n: u32) -> usize
-    requires { ⌜ (length (now name) ≤ 10) × (at + 20 ≤ length (now out)) ⌝ }
-    ensures { λ r. ⌜ Wrote 20 (now (out .entry)) at (now (name .entry) ++ unsignedText n) (now (out .exit)) r ⌝ }
+// What stands for a form's byte: the number for #, or the byte itself.
+fn piece(out: &mut [u8], at: usize, c: u8, z: i64) -> usize
+    requires { ⌜ at + length (Forms·piece c z) ≤ length (now out) ⌝ }
+    ensures { λ r. ⌜ Wrote (now (out .entry)) at (Forms·piece c z) (now (out .exit)) r ⌝ }
 {
-    let next = put(out, at, name);
-    natural(out, next, n)
+    if c == b'#' {
+        return number(out, at, z);
+    }
+    out[at] = c;
+    at + 1
 }
 
-// A name and a signed number.
-pub fn signed_field(out: &mut [u8], at: usize, name: &[u8], z: i32) -> usize
-    requires { ⌜ (length (now name) ≤ 10) × (at + 21 ≤ length (now out)) ⌝ }
-    ensures { λ r. ⌜ Wrote 21 (now (out .entry)) at (now (name .entry) ++ textOf z) (now (out .exit)) r ⌝ }
+// The number at a place; 0 where none is left.
+fn nth(numbers: &[i64], i: usize) -> i64
+    ensures { λ r. ⌜ r ≡ getD (now (numbers .entry)) i (pos 0) ⌝ }
 {
-    let next = put(out, at, name);
-    signed(out, next, z)
+    if i < numbers.len() {
+        return numbers[i];
+    }
+    0
+}
+
+// A line: a form with these numbers, one for each #.
+pub fn put_line(out: &mut [u8], from: usize, form: &[u8], numbers: &[i64]) -> usize
+    requires { ⌜ from + length (lineOf (now form) (now numbers)) ≤ length (now out) ⌝ }
+    ensures { λ r. ⌜ Wrote (now (out .entry)) from (lineOf (now (form .entry)) (now (numbers .entry))) (now (out .exit)) r ⌝ }
+{
+    let mut at = from;
+    let mut next = 0;
+    let mut i = 0;
+    while i < form.len() {
+        let c = form[i];
+        at = piece(out, at, c, nth(numbers, next));
+        next += text::forms::taken(c);
+        i += 1;
+    }
+    at
+}
+
+// The line of a refusal, from the front.
+pub fn refused(out: &mut [u8], why: Refusal) -> usize
+    requires { ⌜ headRoom ≤ length (now out) ⌝ }
+    ensures { λ r. ⌜ Wrote (now (out .entry)) 0 (refusedLine why) (now (out .exit)) r ⌝ }
+{
+    let number = why.number();
+    let place = why.place();
+    let numbers = [number as i64, place as i64];
+    put_line(out, 0, b"refused=# place=#\n", &numbers)
 }

@@ -9,8 +9,8 @@ use mir.Syntax.{w32}
 use mir.ValLaws.{toZ-ofZ}
 use borrow.Author.Needs.{needs}
 use borrow.Author.Tests.{le-leb, lt-leb}
-use Rattle.meaning.specs.Text.{bytes}
-use Rattle.meaning.specs.Job.{jobOf, numberLine, reportLine, good}
+use Rattle.meaning.specs.Forms.{good, lineAt, bitsForm, inputForm}
+use Rattle.meaning.specs.Job.{jobOf, only, reportLine}
 use Rattle.job.specs.Held.{parsedOf}
 use Rattle.job.proofs.Lines.{read-good, read-bad, order-good, order-bad, targets-none, targets-more, targets-all}
 use Rattle.job.proofs.parse.Statement.{statement}
@@ -34,11 +34,11 @@ short c = le-leb _ _ (c .if1 .left)
 
 -- what the three lines say
 line1 : (c : tie.After-known-told)
-    → numberLine (bytes "bits=") (source (start c)) 0 ≡ good (c .before .bits .given .0 .0) (c .before .bits .given .0 .1 .0)
+    → only (lineAt bitsForm (source (start c)) 0) ≡ good (c .before .bits .given .0 .0) (c .before .bits .given .0 .1 .0)
 line1 c = read-good _ _ _ (sym (c .before .before .before .number-line .ensures) ∙ c .before .bits .given .1)
 
 line2 : (c : tie.After-known-told2)
-    → numberLine (bytes "input=") (source (start (first c))) (first c .before .bits .given .0 .1 .0)
+    → only (lineAt inputForm (source (start (first c))) (first c .before .bits .given .0 .1 .0))
     ≡ good (c .before .input .given .0 .0) (c .before .input .given .0 .1 .0)
 line2 c = read-good _ _ _ (sym (c .before .before .before .number-line2 .ensures) ∙ c .before .input .given .1)
 

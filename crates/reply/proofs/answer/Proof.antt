@@ -6,15 +6,13 @@ use borrow.Author.Needs.{needs}
 use lib.IntN.{ℤ, pos}
 use lib.ListN.{length, take, length-replicate}
 use lib.Seq.{sets, length-sets, length-take-le}
-use mir.Syntax.{w32}
-use mir.Val.{SFits}
-use mir.ValLaws.{toZ-ofZ}
 use Rattle.meaning.specs.Job.{Asked, asks, jobOf}
-use Rattle.meaning.specs.Listing.{textRoom}
+use Rattle.meaning.specs.Listing.{replyTo}
 use Rattle.job.specs.declared.Parsed.{Parsed}
 use Rattle.job.specs.Held.{noTargets, parsedOf}
-use Rattle.job.proofs.Laws.{most-targets, kept-targets, bits-fit, input-fits, wants-job, malformed-job}
-use Rattle.reply.proofs.Printing.{print-short, print-text, malformed-text, asked-text, same-job}
+use Rattle.job.proofs.Laws.{most-targets, kept-targets, targets-fit, wants-job, malformed-job}
+use Rattle.reply.specs.Drawing.{Narrow}
+use Rattle.reply.proofs.Printing.{print-short, print-text, malformed-text, asked-text}
 use Rattle.reply.proofs.answer.Statement.{statement}
 use Rattle.reply.proofs.answer.Tie as tie
 
@@ -22,16 +20,14 @@ use Rattle.reply.proofs.answer.Tie as tie
 record Read (c : tie.After-asks2) : Type 0 where
   job : Asked
   is : jobOf (c .before .before .before .before .before .before .args .s .now) ≡ asks job
-  bits : job .bits ≡ c .asks2 .given .0 .0
-  input : job .input ≡ c .asks2 .given .0 .1 .0
-  width : job .byWidth ≡ c .asks2 .given .0 .1 .1 .0
-  count : length (job .targets) ≡ c .asks2 .given .0 .1 .1 .1 .0
+  head : job .head ≡ c .asks2 .given .0 .0
+  count : length (job .targets) ≡ c .asks2 .given .0 .1 .0
 
 read : (c : tie.After-asks2) → Read c
 read c =
     let p = c .before .before in
-    let (j, e, b, w, r, n) = wants-job (jobOf (c .before .before .before .before .before .before .args .s .now)) _ _ _ _ (sym (ap (λ (x : Parsed). x .asks) (p .parse .ensures)) ∙ c .asks2 .given .1) in
-    record { job = j; is = e; bits = b; input = w; width = r; count = n }
+    let (j, e, h, n) = wants-job (jobOf (c .before .before .before .before .before .before .args .s .now)) _ _ (sym (ap (λ (x : Parsed). x .asks) (p .parse .ensures)) ∙ c .asks2 .given .1) in
+    record { job = j; is = e; head = h; count = n }
 
 array : (c : tie.After-asks2) → c .before .before .parse .result .targets ≡ sets noTargets 0 (read c .job .targets)
 array c = ap (λ (x : Parsed). x .targets) (c .before .before .parse .ensures) ∙ ap (λ x. parsedOf x .targets) (read c .is)
@@ -39,10 +35,10 @@ array c = ap (λ (x : Parsed). x .targets) (c .before .before .parse .ensures) �
 places : (c : tie.After-asks2) → length (c .before .before .parse .result .targets) ≡ 128
 places c = ap length (array c) ∙ length-sets noTargets 0 (read c .job .targets) ∙ length-replicate {A = ℤ} 128 (pos 0)
 
-few : (c : tie.After-asks2) → c .asks2 .given .0 .1 .1 .1 .0 ≤ 128
+few : (c : tie.After-asks2) → c .asks2 .given .0 .1 .0 ≤ 128
 few c = omega (arith, most-targets _ (read c .job) (read c .is), read c .count)
 
-targets : (c : tie.After-asks2) → take (c .asks2 .given .0 .1 .1 .1 .0) (c .before .before .parse .result .targets) ≡ read c .job .targets
+targets : (c : tie.After-asks2) → take (c .asks2 .given .0 .1 .0) (c .before .before .parse .result .targets) ≡ read c .job .targets
 targets c = ap₂ take (sym (read c .count)) (array c) ∙ kept-targets _ (read c .job) (read c .is)
 
 returns : tie.Need-returns
@@ -67,7 +63,9 @@ slice-aggregate-draw : tie.Need-slice-aggregate-draw
 slice-aggregate-draw c = let d = c .before .before .before .before in sym (length-take-le _ _ (omega (arith, few d, places d)))
 
 draw-requires : tie.Need-draw-requires
-draw-requires c κs = search needs
+draw-requires c κs =
+    let d = c .before .before .before .before in
+    (omega (arith, d .before .before .before .if1 .left), subst Narrow (sym (targets d)) (targets-fit _ (read d .job) (read d .is)))
 
 same-length : tie.Need-same-length
 same-length c = search needs
@@ -78,7 +76,7 @@ returns-2 c =
     let d = r .before .before .before in
     let p = d .before .before in
     let s = p .before .before .before .before .args .s .now in
-    print-text s 41 _ _ _ _ (omega (arith, p .before .if1 .left)) (omega arith)
+    print-text s _ _ _ _ (omega (arith, p .before .if1 .left))
     (malformed-text s _ (malformed-job (jobOf s) _ (sym (ap (λ (x : Parsed). x .asks) (p .parse .ensures)) ∙ d .asks .given .1))) (r .refused .ensures)
 
 same-length-2 : tie.Need-same-length-2
@@ -91,9 +89,8 @@ returns-3 c =
     let p = d .before .before in
     let s = p .before .before .before .before .args .s .now in
     let j = read d in
-    print-text s textRoom _ _ _ _ (omega (arith, p .before .if1 .left)) (omega arith)
-    (asked-text s (j .job) (j .is) ∙ same-job (j .job) _ _ _ _ (j .bits) (j .input) (j .width) (sym (targets d)))
-    (rw (toZ-ofZ w32 _ (subst (SFits w32) (j .bits) (bits-fit s (j .job) (j .is))), toZ-ofZ w32 _ (subst (SFits w32) (j .input) (input-fits s (j .job) (j .is)))) at (w .draw .ensures))
+    print-text s _ _ _ _ (omega (arith, p .before .if1 .left))
+    (asked-text s (j .job) (j .is) ∙ (λ i. replyTo (record { head = j .head i; targets = sym (targets d) i }))) (w .draw .ensures)
 
 pub answer-spec : {M : Type 1} → statement M
 answer-spec =
