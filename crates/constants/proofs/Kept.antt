@@ -6,7 +6,7 @@ use native.Mathlib.Numerals.{add-one}
 use native.Mathlib.Omega.{arith}
 use lib.ListN.{length, getD, take, drop, length-take}
 use lib.Seq.{drop-cons, length-take-le, getD-take}
-use Rattle.laws.proofs.Choices.{getD-in}
+use Rattle.laws.proofs.Lists.Index.{getD-in}
 use Rattle.constants.specs.declared.wanted.Wanted.{Wanted}
 use Rattle.constants.specs.Held.{kept}
 

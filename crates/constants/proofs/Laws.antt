@@ -14,7 +14,7 @@ use mir.Val.{SFits}
 use Rattle.meaning.specs.declared.Parts.{Parts}
 use Rattle.meaning.specs.Basics.{zerosIn, zeros}
 use Rattle.meaning.specs.Constants.{apart}
-use Rattle.laws.proofs.Zeros.{machine-is, zeros-low, zeros-left}
+use Rattle.laws.proofs.Whole.Zeros.{machine-is, zeros-low, zeros-left}
 
 -- the parts as code finds them from a sign and the magnitude m
 abbrev pub found : ℤ → ℕ → Parts

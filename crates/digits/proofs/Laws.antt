@@ -19,13 +19,13 @@ use Rattle.meaning.specs.declared.Refusal.the-variants as no
 use Rattle.meaning.specs.Basics.{over, zeros}
 use Rattle.meaning.specs.Digits.{Digit, nonzeros, lowest, above, canonic, prefixes, opposite, formOf, isMinus, plusPlaces, minusPlaces, formWords}
 use Rattle.meaning.specs.Refusals.{Done, given, formedAs, canonicTold, canonicWritten}
-use Rattle.laws.proofs.Zeros.{zeros-left}
-use Rattle.laws.proofs.Canonic.{Split, split-none, split-plus, split-minus, split-of}
-use Rattle.laws.proofs.Places.{minus-bit, opposite-plus, opposite-minus, opposite-nonzeros, places-none, places-step, plus-is, minus-half, form-above, form-below}
-use Rattle.laws.proofs.Prefixes.{peel-plus, peel-minus, prefixes-zero, prefixes-one, prefixes-odd}
-use Rattle.laws.proofs.Count.{few-seventeen}
-use Rattle.laws.proofs.Chain.{length-prefixes}
-use Rattle.laws.proofs.Stages.{over-none, short-room, enough-room}
+use Rattle.laws.proofs.Whole.Zeros.{zeros-left}
+use Rattle.laws.proofs.Digits.Canonic.{Split, split-none, split-plus, split-minus, split-of}
+use Rattle.laws.proofs.Digits.Places.{minus-bit, opposite-plus, opposite-minus, opposite-nonzeros, places-none, places-step, plus-is, minus-half, form-above, form-below}
+use Rattle.laws.proofs.Digits.Prefixes.{peel-plus, peel-minus, prefixes-zero, prefixes-one, prefixes-odd}
+use Rattle.laws.proofs.Digits.Count.{few-seventeen}
+use Rattle.laws.proofs.Digits.Chain.{length-prefixes}
+use Rattle.laws.proofs.Refusals.Stages.{over-none, short-room, enough-room}
 use Rattle.digits.specs.declared.Places.{Places}
 use Rattle.digits.specs.Held.{nothing, held, prefixesHeld, near, endSign, oddPart, lastPrefix, placesHeld}
 

@@ -9,7 +9,7 @@ use native.Mathlib.Omega.{arith}
 use lib.Dec.{T, eqb, leb, ltb, leb→le}
 use lib.IntN.{ℤ, pos, negℤ, natAbs}
 use lib.ListN.{length, length-append}
-use Rattle.laws.proofs.Integers.{abs-neg}
+use Rattle.laws.proofs.Whole.Integers.{abs-neg}
 use Rattle.meaning.specs.declared.Answer.{Answer}
 use Rattle.meaning.specs.declared.Answer.the-variants.{Accepted, Refused}
 use Rattle.meaning.specs.declared.Refusal.{Refusal}
@@ -19,9 +19,9 @@ use Rattle.meaning.specs.Limits.{between, bitTests, limit, mostTargets, mostRow
 use Rattle.meaning.specs.Constants.{oddOf}
 use Rattle.meaning.specs.Generator.{generated}
 use Rattle.meaning.specs.Refusals.{number, placeOf, need, needEach, firstOf, bitLimit, listLength, rowCount, validRows, allServed, inputWidth, buffer, fewRows, admitOrder, checkOrder, productsOrder, widthsOrder, rankingOrder, generateOrder, distanceOrder, checked, multiplied, measured, ranked, drawn, apartTold}
-use Rattle.laws.proofs.Graphs.{length-rows}
-use Rattle.laws.proofs.Stages.{never-both, need-accepts, need-refuses}
-use Rattle.laws.proofs.Members.{each-refuses}
+use Rattle.laws.proofs.Graph.Rows.{length-rows}
+use Rattle.laws.proofs.Refusals.Stages.{never-both, need-accepts, need-refuses}
+use Rattle.laws.proofs.Refusals.Members.{each-refuses}
 use Rattle.exports.specs.Codes.{minus, refusalCode}
 
 -- ---- number and place

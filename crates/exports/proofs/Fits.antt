@@ -5,7 +5,7 @@ use native.Mathlib.Omega.{arith}
 use lib.IntN.{ℤ, pos, _-ℤ_}
 use mir.Syntax.{w64}
 use mir.Val.{SFits}
-use Rattle.laws.proofs.Integers.{abs-sub, abs-fits}
+use Rattle.laws.proofs.Whole.Integers.{abs-sub, abs-fits}
 use Rattle.meaning.specs.declared.Refusal.{Refusal}
 use Rattle.meaning.specs.Refusals.{number, placeOf}
 use Rattle.exports.specs.Codes.{minus, refusalCode}

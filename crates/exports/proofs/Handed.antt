@@ -21,7 +21,7 @@ use Rattle.meaning.specs.Basics.{over}
 use Rattle.meaning.specs.Graph.{rowLength}
 use Rattle.meaning.specs.Refusals.{rankingOrder, widthsOrder, ranked, measured, Done}
 use Rattle.meaning.specs.Listing.{textRoom, jobText, printedTold, textWritten}
-use Rattle.laws.proofs.Stages.{first-accepts, need-accepts}
+use Rattle.laws.proofs.Refusals.Stages.{first-accepts, need-accepts}
 use Rattle.exports.specs.Codes.{coded}
 
 -- the code of a refusal, or of acceptance, is that of the answer which was one

@@ -19,11 +19,11 @@ use Rattle.meaning.specs.Constants.{wanted}
 use Rattle.meaning.specs.Graph.{rowLength, flat}
 use Rattle.meaning.specs.Generator.{generated}
 use Rattle.meaning.specs.Refusals.{buffer, fewRows, admitOrder, admitted, Done, given, drawnAs, drawn, drawnTold, rowsWritten}
-use Rattle.laws.proofs.Stages.{stops, stops-at, passes-on, over-none}
-use Rattle.laws.proofs.Chain.{prefix-row}
-use Rattle.laws.proofs.Checked.{Admitted}
-use Rattle.laws.proofs.Wanted.{all-wanted}
-use Rattle.laws.proofs.Generated.{drawn-is}
+use Rattle.laws.proofs.Refusals.Stages.{stops, stops-at, passes-on, over-none}
+use Rattle.laws.proofs.Digits.Chain.{prefix-row}
+use Rattle.laws.proofs.Refusals.Checked.{Admitted}
+use Rattle.laws.proofs.Constants.Wanted.{all-wanted}
+use Rattle.laws.proofs.Generator.Generated.{drawn-is}
 use Rattle.generator.specs.Rule.{AllServable, turned}
 
 -- ---- the wanted set

@@ -13,9 +13,9 @@ use Rattle.meaning.specs.Basics.{has, andThen, overAt}
 use Rattle.meaning.specs.Graph.{rowLength, words, rows, flat, values, ready}
 use Rattle.meaning.specs.Distance.{reach?}
 use Rattle.meaning.specs.Generator.{choiceFor, rowOf, rowFor, prefixRow, ruleC}
-use Rattle.laws.proofs.Graphs.{length-flat, flat-append, ready-append, rows-written}
-use Rattle.laws.proofs.Steps.{rule-c-ready, rule-c-row, rule-c-end}
-use Rattle.laws.proofs.Over.{length-over-at, over-at-part, over-at-none}
+use Rattle.laws.proofs.Graph.Rows.{length-flat, flat-append, ready-append, rows-written}
+use Rattle.laws.proofs.Generator.Steps.{rule-c-ready, rule-c-row, rule-c-end}
+use Rattle.laws.proofs.Lists.Over.{length-over-at, over-at-part, over-at-none}
 use Rattle.search.specs.declared.ready.Ready.{Ready}
 use Rattle.search.specs.Listed.{listed, Added}
 use Rattle.search.proofs.ReadyLaws.{grown-room}

@@ -12,9 +12,9 @@ use Rattle.meaning.specs.Basics.{upFrom, zeros, firstSome}
 use Rattle.meaning.specs.Operation.{size, Valid, Outcome}
 use Rattle.meaning.specs.Distance.{gives?, shiftPairs}
 use Rattle.meaning.specs.Generator.{chosen, choiceFor}
-use Rattle.laws.proofs.Tests.{true-of, false-of}
-use Rattle.laws.proofs.Reach.{gives-of-test, test-of-gives}
-use Rattle.laws.proofs.Scan.{step, first-step, first-append, first-map, scan-miss, scan-hit, scan-end}
+use Rattle.laws.proofs.Lists.Tests.{true-of, false-of}
+use Rattle.laws.proofs.Distance.Reach.{gives-of-test, test-of-gives}
+use Rattle.laws.proofs.Lists.First.{step, first-step, first-append, first-map, scan-miss, scan-hit, scan-end}
 use Rattle.generator.specs.declared.first_choice.Pair.{Pair}
 use Rattle.generator.specs.declared.first_choice.Found.{Found}
 use Rattle.generator.specs.declared.first_choice.Found.the-variants.{At, Missing}

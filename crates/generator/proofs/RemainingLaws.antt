@@ -9,7 +9,7 @@ use lib.ListN.{length, getD, set, take, drop, replicate, length-set}
 use lib.Seq.{take-suc-set}
 use Rattle.meaning.specs.Basics.{has}
 use Rattle.meaning.specs.Generator.{remaining}
-use Rattle.laws.proofs.Steps.{remaining-ready, remaining-left, remaining-end}
+use Rattle.laws.proofs.Generator.Steps.{remaining-ready, remaining-left, remaining-end}
 use Rattle.constants.specs.declared.wanted.Wanted.{Wanted}
 use Rattle.constants.specs.Held.{kept}
 use Rattle.generator.specs.Lists.{Lists}

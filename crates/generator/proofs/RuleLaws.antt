@@ -15,9 +15,10 @@ use Rattle.meaning.specs.Digits.{prefixes}
 use Rattle.meaning.specs.Graph.{ready}
 use Rattle.meaning.specs.Distance.{reach?}
 use Rattle.meaning.specs.Generator.{rowFor, ruleA, serve, ruleB, ruleC, orElse, added}
-use Rattle.laws.proofs.Tests.{true-of, false-of}
-use Rattle.laws.proofs.Choices.{got, found, first-from, first-got, got-row}
-use Rattle.laws.proofs.Steps.{near as reached, rule-a-is}
+use Rattle.laws.proofs.Lists.Tests.{true-of, false-of}
+use Rattle.laws.proofs.Lists.First.{got, found, first-from, first-got}
+use Rattle.laws.proofs.Generator.Choices.{got-row}
+use Rattle.laws.proofs.Generator.Steps.{near as reached, rule-a-is}
 use Rattle.generator.specs.Growth.{atMostOne}
 use Rattle.search.specs.declared.serving.Trials.{Trials}
 use Rattle.search.specs.declared.serving.Trials.the-variants.{At, Nothing}

@@ -1,14 +1,13 @@
 -- The search for the first row, part by part, as answers of the code. Assumes nothing.
-use mathlib.Core.Path.{_≡_}
 use mathlib.Core.Bool.{cond}
 use mathlib.Core.List.{List, [], _∷_}
 use mathlib.Core.Option.{Option, some, none}
-use Prim.Native.Nat.{ℕ, _+_, _-_, _%_, _^_, _≤_, _<_}
+use Prim.Native.Nat.{ℕ, _+_, _-_, _^_, _≤_, _<_}
 use lib.ListN.{length, getD}
 use Rattle.meaning.specs.Limits.{mostLimit, mostReady}
 use Rattle.meaning.specs.declared.Choice.{Choice}
 use Rattle.meaning.specs.Basics.{upFrom, zeros, firstSome}
-use Rattle.meaning.specs.Operation.{size}
+use Rattle.meaning.specs.Operation.{Odd, size}
 use Rattle.meaning.specs.Distance.{gives?, shiftPairs}
 use Rattle.generator.specs.declared.first_choice.Pair.{Pair}
 use Rattle.generator.specs.declared.first_choice.Found.{Found}
@@ -23,8 +22,8 @@ pub record Asked (L : ℕ) (vals : List ℕ) (n c : ℕ) : Type 0 where
   pub limit : L ≤ mostLimit
   pub few : n ≤ mostReady
   pub inside : n ≤ length vals
-  pub odd : (i : ℕ) → i < n → (getD vals i 0 % 2 ≡ 1) × (getD vals i 0 < 2 ^ L)
-  pub wanted : (c % 2 ≡ 1) × (c < 2 ^ L)
+  pub odd : (i : ℕ) → i < n → Odd L (getD vals i 0)
+  pub wanted : Odd L c
 
 -- what of it concerns a pair
 pub record Sought (p : Pair) : Type 0 where

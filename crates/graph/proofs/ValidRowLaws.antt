@@ -13,10 +13,10 @@ use Rattle.meaning.specs.declared.Row.{Row}
 use Rattle.meaning.specs.Basics.{all}
 use Rattle.meaning.specs.Limits.{bitTests, limit}
 use Rattle.meaning.specs.Graph.{rowAfter, rows, valueAt, fits?}
-use Rattle.laws.proofs.Graphs.{length-ready}
+use Rattle.laws.proofs.Graph.Rows.{length-ready}
 use Rattle.meaning.specs.Operation.{Valid, valid?, operated, operatedUnder, whole}
-use Rattle.laws.proofs.Tests.{both-of, of-both, true-of, false-of, T-of, bool-ext, eq→eqb}
-use Rattle.laws.proofs.Operations.{valid-of-test, test-of-valid, operated-made, operated-valid}
+use Rattle.laws.proofs.Lists.Tests.{both-of, of-both, true-of, false-of, T-of, bool-ext, eq→eqb}
+use Rattle.laws.proofs.Operation.Result.{valid-of-test, test-of-valid, operated-made, operated-valid}
 
 module _ (b u v l1 l2 s : ℕ) where
   abbrev range : Bool

@@ -18,8 +18,8 @@ use Rattle.meaning.specs.declared.Read.the-variants.{Number, Bad}
 use Rattle.meaning.specs.Text.{bytes, stands, numberAt}
 use Rattle.meaning.specs.Forms.{Line, good, bad, onRead, front, lineAt, bitsForm, inputForm}
 use Rattle.meaning.specs.Job.{Asked, Job, asks, malformed, next, only, reportLine, numbers, targetsLine, jobOf}
-use Rattle.laws.proofs.Numerals.{number-read}
-use Rattle.laws.proofs.Texts.{stands-within}
+use Rattle.laws.proofs.Text.Numerals.{number-read}
+use Rattle.laws.proofs.Text.Bytes.{stands-within}
 use Rattle.job.specs.declared.Asks.the-variants.{Wants, Malformed}
 use Rattle.job.specs.Held.{noTargets, parsedOf}
 

@@ -16,12 +16,12 @@ use Rattle.meaning.specs.Digits.{cost, csdSum}
 use Rattle.meaning.specs.Forms.{linesOf, rowForm, outForm}
 use Rattle.meaning.specs.Graph.{rowLength, rows, values}
 use Rattle.meaning.specs.Listing.{headText, rowOrder, rowOf, rowNumbers, rowsBy, outNumbers, outsFrom, graphIn, listingOf}
-use Rattle.laws.proofs.Choices.{getD-in}
-use Rattle.laws.proofs.Graphs.{length-rows, length-values}
-use Rattle.laws.proofs.Listings.{order-length, order-in}
-use Rattle.laws.proofs.Over.{over-at}
-use Rattle.laws.proofs.Scan.{up-length, up-more}
-use Rattle.laws.proofs.Wanted.{wanted-in}
+use Rattle.laws.proofs.Lists.Index.{getD-in}
+use Rattle.laws.proofs.Graph.Rows.{length-rows, length-values}
+use Rattle.laws.proofs.Text.Listings.{order-length, order-in}
+use Rattle.laws.proofs.Lists.Over.{over-at}
+use Rattle.laws.proofs.Lists.First.{up-length, up-more}
+use Rattle.laws.proofs.Constants.Wanted.{wanted-in}
 use Rattle.listing.specs.Parts.{InRows, printed}
 
 -- ---- the sum so far, and one more

@@ -2,13 +2,17 @@
 use mathlib.Core.Path.{_≡_}
 use mathlib.Core.Bool.{Bool, cond}
 use mathlib.Core.List.{List, [], _∷_}
-use Prim.Native.Nat.{ℕ, zero, suc, _+_, _*_, _/_, _^_, _≤_, _<_, min}
+use Prim.Native.Nat.{ℕ, zero, suc, _+_, _*_, _/_, _%_, _^_, _≤_, _<_, min}
 use lib.Dec.{leb, ltb, eqb}
 use lib.IntN.{ℤ, pos, _+ℤ_, _-ℤ_}
 use Rattle.meaning.specs.declared.Operated.{Operated}
 use Rattle.meaning.specs.declared.Operated.the-variants.{Made, Invalid}
 use Rattle.meaning.specs.Basics.{difference, all, zeros}
 use Rattle.meaning.specs.Limits.{bitTests, limit}
+
+-- the values that operations are for, and have: odd, and below 2^L
+abbrev pub Odd : (L c : ℕ) → Type 0
+Odd L c = (c % 2 ≡ 1) × (c < 2 ^ L)
 
 -- n = 2^l1 × u + (-1)^s × 2^l2 × v
 abbrev pub whole : (u v l1 l2 s : ℕ) → ℤ

@@ -10,8 +10,8 @@ use Rattle.meaning.specs.declared.Operated.{Operated}
 use Rattle.meaning.specs.declared.Operated.the-variants.{Made, Invalid}
 use Rattle.meaning.specs.Basics.{all, zeros}
 use Rattle.meaning.specs.Operation.{whole, size, outcome?, valid?, operated}
-use Rattle.laws.proofs.Tests.{true-of, false-of, all-append, and-true}
-use Rattle.laws.proofs.Operations.{outcome-of-test, test-of-outcome, size-is}
+use Rattle.laws.proofs.Lists.Tests.{true-of, false-of, all-append, and-true}
+use Rattle.laws.proofs.Operation.Result.{outcome-of-test, test-of-outcome, size-is}
 use Rattle.operation.specs.Code.{outcomeOf}
 
 -- ---- what n comes to

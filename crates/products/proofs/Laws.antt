@@ -12,8 +12,8 @@ use native.Mathlib.Numerals.{add-one}
 use native.Mathlib.Omega.{arith}
 use Rattle.meaning.specs.declared.Row.{Row}
 use Rattle.meaning.specs.Basics.{every}
-use Rattle.laws.proofs.Tests.{both-of, in-every}
-use Rattle.laws.proofs.Checked.{good-of}
+use Rattle.laws.proofs.Lists.Tests.{both-of, in-every}
+use Rattle.laws.proofs.Refusals.Checked.{good-of}
 use Rattle.meaning.specs.declared.Answer.the-variants.{Accepted}
 use Rattle.meaning.specs.Limits.{limit}
 use Rattle.meaning.specs.Refusals.{checked}

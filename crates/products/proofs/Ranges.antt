@@ -12,14 +12,16 @@ use lib.ListN.{length, getD, length-map}
 use lib.Pow.{pow-mono}
 use mir.Syntax.{w32}
 use mir.Val.{SFits}
-use Rattle.laws.proofs.Integers.{abs-mul}
+use Rattle.laws.proofs.Whole.Integers.{abs-mul}
 use Rattle.meaning.specs.Basics.{indexFrom, zerosIn, zeros}
 use Rattle.meaning.specs.Constants.{signOf, shiftOf, oddOf}
 use Rattle.meaning.specs.Graph.{rowAfter, rows, values, ready, served?, outputIndex}
 use Rattle.meaning.specs.Products.{products}
-use Rattle.laws.proofs.Zeros.{zeros-whole, zeros-left, zeros-low}
-use Rattle.laws.proofs.Graphs.{length-ready, sound-at}
-use Rattle.laws.proofs.Products.{product-at, products-are, odds-ready, fits-low, index-inside, served-index}
+use Rattle.laws.proofs.Whole.Zeros.{zeros-whole, zeros-left, zeros-low}
+use Rattle.laws.proofs.Graph.Rows.{length-ready, sound-at}
+use Rattle.laws.proofs.Products.{product-at, products-are, served-index}
+use Rattle.laws.proofs.Graph.Bounds.{odds-ready, fits-low}
+use Rattle.laws.proofs.Lists.Index.{index-inside}
 use Rattle.products.specs.Worked.{Next, Graph, Made}
 
 pub abs-32 : (x : ℤ) → SFits w32 x → natAbs x ≤ 2 ^ 31

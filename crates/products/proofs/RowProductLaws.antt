@@ -5,7 +5,7 @@ use Prim.Native.Nat.{ℕ, zero, suc, _+_, _*_, _^_, _≤_}
 use native.Mathlib.Omega.{arith}
 use lib.Dec.{ltb}
 use lib.IntN.{ℤ, pos, natAbs, _-ℤ_, _*ℤ_}
-use Rattle.laws.proofs.Integers.{abs-add, abs-sub, abs-mul, abs-neg}
+use Rattle.laws.proofs.Whole.Integers.{abs-add, abs-sub, abs-mul, abs-neg}
 use Rattle.meaning.specs.Products.{negative?, joined, negatedIf}
 
 -- as code meets a sign that is not 0

@@ -1,7 +1,7 @@
 -- A job that is not malformed: a graph that was drawn for it and its listing, and the replies. Assumes nothing.
 use mathlib.Core.Path.{_≡_, refl, ap, _∙_, subst}
 use mathlib.Core.Bool.{Bool, true, false}
-use mathlib.Core.List.{List, [], _∷_}
+use mathlib.Core.List.{List, []}
 use Prim.Native.Nat.{ℕ, _≤_, _<_}
 use native.Mathlib.Omega.{arith}
 use lib.IntN.{ℤ, pos, negsuc, natAbs}
@@ -21,10 +21,10 @@ use Rattle.meaning.specs.Job.{Asked, natural, bitsOf, inputOf, jobOrder}
 use Rattle.meaning.specs.Listing.{graphIn, listingOf, orRefused, refusedLine, replyTo, listing, textRoom}
 use Rattle.meaning.specs.Limits.{widthTests}
 use Rattle.meaning.specs.Refusals.{firstOf, admitted}
-use Rattle.laws.proofs.Checked.{GoodWidth, good-of}
-use Rattle.laws.proofs.Jobs.{job-stops, job-passes}
-use Rattle.laws.proofs.Listings.{listing-room}
-use Rattle.laws.proofs.Stages.{stops, passes}
+use Rattle.laws.proofs.Refusals.Checked.{GoodWidth, good-of}
+use Rattle.laws.proofs.Text.Jobs.{job-stops, job-passes}
+use Rattle.laws.proofs.Text.Listings.{listing-room}
+use Rattle.laws.proofs.Refusals.Stages.{stops, passes}
 use Rattle.listing.specs.Parts.{Listable}
 use Rattle.reply.specs.Drawing.{Drawing}
 

@@ -12,7 +12,7 @@ use Rattle.meaning.specs.Basics.{over}
 use Rattle.meaning.specs.Job.{Asked, Job, asks, malformed, jobOf}
 use Rattle.meaning.specs.Listing.{answerOf, replyTo, refusedLine, jobText, printedTold, textWritten, textRoom}
 use Rattle.meaning.specs.Refusals.{Done}
-use Rattle.laws.proofs.Stages.{over-none}
+use Rattle.laws.proofs.Refusals.Stages.{over-none}
 use Rattle.writing.specs.Wrote.{Wrote}
 
 module _ (s : List ℕ) where

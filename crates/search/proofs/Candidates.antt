@@ -10,7 +10,7 @@ use lib.ListN.{take}
 use lib.Pow.{pow-pos}
 use Rattle.meaning.specs.Basics.{upFrom, firstSome}
 use Rattle.meaning.specs.Distance.{candidates}
-use Rattle.laws.proofs.Scan.{first-none, first-some, up-split}
+use Rattle.laws.proofs.Lists.First.{first-none, first-some, up-split}
 use Rattle.search.specs.declared.serving.Trials.the-variants.{At, Nothing}
 use Rattle.search.specs.Choices.{used, pick}
 use Rattle.search.proofs.Scan.{used-none, used-some}

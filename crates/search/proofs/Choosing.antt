@@ -12,12 +12,13 @@ use lib.ListN.{getD, take}
 use lib.Pow.{pow-pos}
 use Rattle.meaning.specs.Basics.{any, upFrom, firstSome}
 use Rattle.meaning.specs.Distance.{reach?, serves?, candidates}
-use Rattle.laws.proofs.Tests.{bool-ext, both-of, of-both, true-of, false-of, T-of}
-use Rattle.laws.proofs.Distances.{twice-is}
-use Rattle.laws.proofs.Reach.{reach-is, reached-odd}
-use Rattle.laws.proofs.Scan.{first-map}
+use Rattle.laws.proofs.Lists.Tests.{bool-ext, both-of, of-both, true-of, false-of, T-of}
+use Rattle.laws.proofs.Distance.Distances.{twice-is}
+use Rattle.laws.proofs.Distance.Reach.{reach-is, reached-odd}
+use Rattle.laws.proofs.Lists.First.{first-map}
 use Rattle.search.specs.Sides.{with?, twice?}
-use Rattle.search.specs.Marks.{marked, Odd, Ready, State}
+use Rattle.meaning.specs.Operation.{Odd}
+use Rattle.search.specs.Marks.{marked, Ready, State}
 use Rattle.search.proofs.Marks.{reached-is}
 use Rattle.search.proofs.Serves.{AllOdd, some-bits, serves-is}
 use Rattle.search.specs.declared.serving.Trials.the-variants.{At, Nothing}

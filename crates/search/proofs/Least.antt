@@ -12,11 +12,11 @@ use lib.Dec.{T, eqb, eqb→eq, eqb-refl}
 use lib.ListN.{length, getD, take}
 use lib.Pow.{pow-mono}
 use Rattle.meaning.specs.Basics.{zeros}
-use Rattle.meaning.specs.Operation.{size}
+use Rattle.meaning.specs.Operation.{Odd, size}
 use Rattle.meaning.specs.Distance.{oneOp?}
-use Rattle.laws.proofs.Tests.{bool-ext, eq→eqb, either-of, of-left, of-right, T-of}
+use Rattle.laws.proofs.Lists.Tests.{bool-ext, eq→eqb, either-of, of-left, of-right, T-of}
 use Rattle.search.specs.Sides.{hits?, sideTo?, with?, factor?, twice?}
-use Rattle.search.specs.Marks.{marked, Odd}
+use Rattle.search.specs.Marks.{marked}
 use Rattle.search.proofs.Sides.{any-up, hit-outcome, outcome-hit, side-stop, side-suc, with-suc}
 use Rattle.search.specs.Least.{Seen, Lowers}
 

@@ -11,12 +11,12 @@ use lib.ListN.{length, getD, set, take, replicate, length-set, length-replicate,
 use lib.Pow.{pow-mono}
 use lib.Seq.{getD-set-same, getD-set-other, take-suc-set, ext-getD}
 use Rattle.meaning.specs.Basics.{zeros}
-use Rattle.meaning.specs.Operation.{size}
+use Rattle.meaning.specs.Operation.{Odd, size}
 use Rattle.meaning.specs.Distance.{oneOp?, reach?}
-use Rattle.laws.proofs.Tests.{true-of, false-of}
-use Rattle.laws.proofs.Zeros.{zeros-left}
+use Rattle.laws.proofs.Lists.Tests.{true-of, false-of}
+use Rattle.laws.proofs.Whole.Zeros.{zeros-left}
 use Rattle.search.specs.Sides.{hits?, sideTo?, with?}
-use Rattle.search.specs.Marks.{bit, markOf, Holds, Adds, marked, Wide, Odd, State}
+use Rattle.search.specs.Marks.{bit, markOf, Holds, Adds, marked, Wide, State}
 use Rattle.search.proofs.Sides.{hit-outcome, outcome-hit, side-stop, side-suc, with-suc, one-self, reach-add}
 
 -- ---- additions

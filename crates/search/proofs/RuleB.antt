@@ -12,12 +12,11 @@ use Rattle.meaning.specs.Basics.{firstSome, andThen}
 use Rattle.meaning.specs.Graph.{ready}
 use Rattle.meaning.specs.Distance.{reach?, serves?, candidates}
 use Rattle.meaning.specs.Generator.{rowFor, trials, serve, ruleB}
-use Rattle.laws.proofs.Choices.{found, first-from, then-from}
-use Rattle.laws.proofs.Inverse.{Odd}
-use Rattle.laws.proofs.Reach.{reach-is, reached-odd}
-use Rattle.laws.proofs.Rules.{serve-got}
-use Rattle.laws.proofs.Scan.{step, first-append, first-map}
-use Rattle.laws.proofs.Tests.{both-of, T-of}
+use Rattle.laws.proofs.Lists.First.{found, first-from, then-from, step, first-append, first-map}
+use Rattle.meaning.specs.Operation.{Odd}
+use Rattle.laws.proofs.Distance.Reach.{reach-is, reached-odd}
+use Rattle.laws.proofs.Generator.Rules.{serve-got}
+use Rattle.laws.proofs.Lists.Tests.{both-of, T-of}
 use Rattle.search.specs.declared.serving.Trials.the-variants.{At, Nothing}
 use Rattle.search.specs.Choices.{serving, pick, chosenIn}
 use Rattle.search.proofs.Scan.{first-take, through, first-through}

@@ -7,9 +7,8 @@ use Prim.Native.Nat.{ℕ, zero, suc}
 use native.Mathlib.Omega.{arith}
 use lib.ListN.{take}
 use Rattle.meaning.specs.Basics.{firstSome, andThen}
-use Rattle.laws.proofs.Tests.{T-of}
-use Rattle.laws.proofs.Choices.{got, found}
-use Rattle.laws.proofs.Scan.{first-none, first-some}
+use Rattle.laws.proofs.Lists.Tests.{T-of}
+use Rattle.laws.proofs.Lists.First.{got, found, first-none, first-some}
 use Rattle.search.specs.Choices.{used}
 
 abbrev count {κ} : {B : Type κ} → Option B → ℕ → ℕ

@@ -11,10 +11,11 @@ use lib.Dec.{T, eqb, eqb→eq}
 use lib.Pow.{pow-pos}
 use Rattle.meaning.specs.Basics.{upFrom}
 use Rattle.meaning.specs.Distance.{oneOp?, reach?}
-use Rattle.laws.proofs.Tests.{bool-ext, eq→eqb, any-in, in-any, either-of, of-left, of-right, in-up, up-in}
-use Rattle.laws.proofs.Zeros.{zeros-unique}
-use Rattle.laws.proofs.Inverse.{Odd, Balance, plus-is, minus-is, Balanced, balanced-of, gives-of, lemma-5-2}
-use Rattle.laws.proofs.Reach.{one-is, reach-is}
+use Rattle.laws.proofs.Lists.Tests.{bool-ext, eq→eqb, any-in, in-any, either-of, of-left, of-right, in-up, up-in}
+use Rattle.laws.proofs.Whole.Zeros.{zeros-unique}
+use Rattle.meaning.specs.Operation.{Odd}
+use Rattle.laws.proofs.Operation.Inverse.{Balance, plus-is, minus-is, Balanced, balanced-of, gives-of, lemma-5-2}
+use Rattle.laws.proofs.Distance.Reach.{one-is, reach-is}
 use Rattle.search.specs.Sides.{with?, factor?, twice?}
 use Rattle.search.proofs.Sides.{one-swap, reach-of}
 

@@ -16,11 +16,11 @@ use lib.Seq.{take-suc}
 use Rattle.meaning.specs.Basics.{difference, any, upFrom, zeros}
 use Rattle.meaning.specs.Operation.{size, Outcome, Valid, Gives}
 use Rattle.meaning.specs.Distance.{oneOp?, reach?}
-use Rattle.laws.proofs.Tests.{bool-ext, any-in, in-any, either-of, of-left, of-right, in-up, up-in}
-use Rattle.laws.proofs.Operations.{outcome-of-test, test-of-outcome}
-use Rattle.laws.proofs.Zeros.{zeros-of-odd}
-use Rattle.laws.proofs.Inverse.{valid-swap, gives-swap}
-use Rattle.laws.proofs.Reach.{one-is, reach-is, reached-within}
+use Rattle.laws.proofs.Lists.Tests.{bool-ext, any-in, in-any, either-of, of-left, of-right, in-up, up-in}
+use Rattle.laws.proofs.Operation.Result.{outcome-of-test, test-of-outcome}
+use Rattle.laws.proofs.Whole.Zeros.{zeros-of-odd}
+use Rattle.laws.proofs.Operation.Inverse.{valid-swap, gives-swap}
+use Rattle.laws.proofs.Distance.Reach.{one-is, reach-is, reached-within}
 use Rattle.search.specs.Sides.{hits?, at?, sideTo?, with?}
 
 of-either : (a b : Bool) → T a ⊎ T b → T (a || b)

@@ -2,10 +2,11 @@
 use mathlib.Core.Path.{_≡_}
 use mathlib.Core.Bool.{Bool, true, false}
 use mathlib.Core.List.{List}
-use Prim.Native.Nat.{ℕ, _+_, _*_, _/_, _%_, _^_, _≤_, _<_}
+use Prim.Native.Nat.{ℕ, _+_, _*_, _/_, _^_, _≤_, _<_}
 use lib.Dec.{eqb}
 use lib.ListN.{length, getD, take}
 use Rattle.meaning.specs.Limits.{mostLimit}
+use Rattle.meaning.specs.Operation.{Odd}
 use Rattle.meaning.specs.Distance.{reach?}
 
 abbrev pub bit : Bool → ℕ
@@ -39,10 +40,6 @@ shortLimit = 13
 
 abbrev pub longLimit : ℕ
 longLimit = 17
-
--- odd, and below 2 ^ L
-abbrev pub Odd : ℕ → ℕ → Type 0
-Odd L v = (v % 2 ≡ 1) × (v < 2 ^ L)
 
 -- the first n values are odd and below 2 ^ L
 abbrev pub Ready : ℕ → List ℕ → ℕ → Type 0

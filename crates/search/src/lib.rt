@@ -16,7 +16,8 @@ ghost use lib.Dec.{leb};
 ghost use lib.ListN.{length, take};
 ghost use Rattle.meaning.specs.Distance.{oneOp?, reach?};
 ghost use Rattle.search.specs.Sides.{hits?, sideTo?, with?};
-ghost use Rattle.search.specs.Marks.{Holds, Adds, marked, shortLimit, Wide, Odd, Ready, State};
+ghost use Rattle.meaning.specs.Operation.{Odd};
+ghost use Rattle.search.specs.Marks.{Holds, Adds, marked, shortLimit, Wide, Ready, State};
 
 // n without its trailing zeros is marked, if that is below 2^limit.
 fn mark(map: &mut [u8], limit: u32, n: u64)

@@ -9,7 +9,8 @@ ghost use lib.ListN.{length, take};
 ghost use Rattle.meaning.specs.Basics.{any};
 ghost use Rattle.meaning.specs.Distance.{oneOp?, reach?, serves?, candidates};
 ghost use Rattle.search.specs.Sides.{hits?, sideTo?, with?, twice?};
-ghost use Rattle.search.specs.Marks.{Wide, Odd, Ready, State};
+ghost use Rattle.meaning.specs.Operation.{Odd};
+ghost use Rattle.search.specs.Marks.{Wide, Ready, State};
 ghost use Rattle.search.specs.Choices.{chosenIn};
 ghost use Rattle.search.specs.Least.{Lowers};
 

@@ -3,7 +3,7 @@ use mathlib.Core.Path.{_≡_, refl, sym, ap, _∙_, subst}
 use mathlib.Core.Bool.{Bool, true, false, cond}
 use mathlib.Core.List.{List, [], _∷_, _++_, map, List·Memᴰ, List·Permᴰ}
 use mathlib.Core.Logic.{inl, inr, ⊎-elim, _↔_}
-use Prim.Native.Nat.{ℕ, suc, _+_, _-_, _*_, _%_, _^_, _≤_, _<_}
+use Prim.Native.Nat.{ℕ, _+_, _-_, _*_, _%_, _^_, _≤_, _<_}
 use native.Mathlib.Omega.{arith}
 use lib.Dec.{T, leb, ltb, eqb, leb→le, le→leb, ltb→lt, lt→ltb, eqb→eq}
 use lib.IntN.{ℤ, pos, negsuc}
@@ -23,20 +23,21 @@ use Rattle.meaning.specs.Basics.{all, any, has, First, upFrom, over}
 use Rattle.meaning.specs.Limits.{limit, mostRows, mostReady}
 use Rattle.meaning.specs.Constants.{oddOf}
 use Rattle.meaning.specs.Distance.{distance, reach?, serves?, candidates}
+use Rattle.meaning.specs.Operation.{Odd}
 use Rattle.meaning.specs.Graph.{rowLength, rowTests, rows, values, Fits, fits?, served?}
 use Rattle.meaning.specs.Generator.{generated}
 use Rattle.meaning.specs.Job.{Asked, Job, asks, malformed, jobOf, jobOrder, natural}
 use Rattle.meaning.specs.Widths.{rowWidth, InOrder}
 use Rattle.meaning.specs.Listing.{rowOrder, answerOf, orRefused, replyTo, refusedLine, listing, jobText, printedTold, textWritten, textRoom}
 use Rattle.meaning.specs.Refusals.{need, needEach, number, Done, given, drawnAs, farAs, firstOf, admitOrder, checkOrder, sizedOrder, productsOrder, widthsOrder, rankingOrder, generateOrder, distanceOrder, oddParts, buffer, rowCount, validRows, allServed, fewRows, inputWidth, readyValues, target, admitted, checked, multiplied, productsWritten, measured, widthsWritten, ranked, rankingWritten, drawn, drawnTold, rowsWritten, distanceTold}
-use Rattle.laws.proofs.Tests.{All, all-of, of-all, true-of, false-of, T-of, in-every, every-in, both-of, of-both, either-of, of-left, of-right, eq→eqb}
-use Rattle.laws.proofs.Listings.{order-permutes, ranking-any}
-use Rattle.laws.proofs.Ranking.{ranking-ordered}
-use Rattle.laws.proofs.ReadBack.{read-back}
-use Rattle.laws.proofs.Reach.{in-has, has-in}
-use Rattle.laws.proofs.Stages.{never-both, refused-same, need-refuses, one-answer, one-done, over-none}
-use Rattle.laws.proofs.Members.{each-refuses, refuses-each}
-use Rattle.laws.proofs.Graphs.{length-values, fits-of-test, test-of-fits}
+use Rattle.laws.proofs.Lists.Tests.{All, all-of, of-all, false-of, T-of, both-of, of-both, either-of, of-left, of-right, eq→eqb}
+use Rattle.laws.proofs.Text.Listings.{order-permutes, ranking-any}
+use Rattle.laws.proofs.Widths.Ranking.{ranking-ordered}
+use Rattle.laws.proofs.Text.ReadBack.{read-back}
+use Rattle.laws.proofs.Lists.Has.{in-has, has-in}
+use Rattle.laws.proofs.Refusals.Stages.{never-both, refused-same, need-refuses, one-answer, one-done, over-none}
+use Rattle.laws.proofs.Refusals.Members.{each-refuses, refuses-each}
+use Rattle.laws.proofs.Graph.Rows.{length-values, fits-of-test, test-of-fits}
 use Rattle.tender.specs.Condition1.{Situation, Signed32, oddPartOut, bufferShort, rowCountOut, rowInvalid, oddPartMissing, rowsOver, widthOut, readyValueOut, targetOut, RefusedBy, admitTable, checkTable, sizedTable, generateTable, distanceTable, jobTable, Condition1}
 
 -- ---- stages and their situations
@@ -143,7 +144,7 @@ module _ (xs : List Row) where
 
 ready-values : (b : ℕ) (vals : List ℕ) → Exactly (readyValues b vals) (readyValueOut b vals)
 ready-values b vals =
-    eaches no.Ready _ (λ _ v. ¬ ((v % 2 ≡ 1) × (v < 2 ^ limit b)))
+    eaches no.Ready _ (λ _ v. ¬ (Odd (limit b) v))
     (λ _ v h n. let q = both-of (eqb (v % 2) 1) (ltb v (2 ^ limit b)) h in n (eqb→eq _ _ (q .0), ltb→lt _ _ (q .1)))
     (λ _ v e p. subst T e (of-both (eqb (v % 2) 1) (ltb v (2 ^ limit b)) (eq→eqb _ _ (p .0)) (lt→ltb _ _ (p .1)))) vals
 
@@ -157,7 +158,7 @@ row-count n w =
 
 target-told : (b c : ℕ) → Exactly (target b c) (targetOut b c)
 target-told b c =
-    needs no.Target (eqb (c % 2) 1 ∷ ltb c (2 ^ b) ∷ []) ((c % 2 ≡ 1) × (c < 2 ^ b)) (λ t. (eqb→eq _ _ (t .0), ltb→lt _ _ (t .1 .0)))
+    needs no.Target (eqb (c % 2) 1 ∷ ltb c (2 ^ b) ∷ []) (Odd b c) (λ t. (eqb→eq _ _ (t .0), ltb→lt _ _ (t .1 .0)))
     (λ p. (eq→eqb _ _ (p .0), (lt→ltb _ _ (p .1), tt)))
 
 check-told : (b : ℕ) (ts : List ℤ) (n : ℕ) (w : List ℕ) → Told (checkOrder b ts n w) (checkTable b ts n w)

@@ -17,14 +17,14 @@ use Rattle.meaning.specs.Graph.{rowLength, rowAt, rows, values, ready, valueAt,
 use Rattle.meaning.specs.Products.{products, targetProduct, targetProducts}
 use Rattle.meaning.specs.Widths.{ranking, InOrder}
 use Rattle.meaning.specs.Refusals.{checkOrder, productsOrder, admitted, checked, sized, multiplied, productsWritten, given}
-use Rattle.laws.proofs.Tests.{any-in, in-any, either-of, of-left, of-right, in-every}
-use Rattle.laws.proofs.Operations.{size-is, exact-of, outcome-of}
-use Rattle.laws.proofs.Graphs.{length-rows, length-values, ready-append, sound-odd}
-use Rattle.laws.proofs.Stages.{first-accepts, all-accept}
-use Rattle.laws.proofs.Checked.{admitted-of, good-of, of-good, sized-of}
+use Rattle.laws.proofs.Lists.Tests.{any-in, in-any, either-of, of-left, of-right, in-every}
+use Rattle.laws.proofs.Operation.Result.{size-is, exact-of, outcome-of}
+use Rattle.laws.proofs.Graph.Rows.{length-rows, length-values, ready-append, sound-odd}
+use Rattle.laws.proofs.Refusals.Stages.{first-accepts, all-accept}
+use Rattle.laws.proofs.Refusals.Checked.{admitted-of, good-of, of-good, sized-of}
 use Rattle.laws.proofs.Products.{products-are, target-product, target-products}
-use Rattle.laws.proofs.Fewest.{row-fewest, shifted-fewest, output-fewest}
-use Rattle.laws.proofs.Ranking.{ranking-permutes, ranking-ordered}
+use Rattle.laws.proofs.Widths.Fewest.{row-fewest, shifted-fewest, output-fewest}
+use Rattle.laws.proofs.Widths.Ranking.{ranking-permutes, ranking-ordered}
 use Rattle.tender.specs.Condition2.{AOperation, EveryRowValid, EveryConstantMade, widthOf, Condition2}
 
 -- ---- the operation

@@ -11,12 +11,12 @@ use Rattle.meaning.specs.Limits.{limit}
 use Rattle.meaning.specs.Constants.{wanted}
 use Rattle.meaning.specs.Distance.{distance}
 use Rattle.meaning.specs.Refusals.{firstOf, distanceOrder, distanceTold}
-use Rattle.laws.proofs.Canonic.{canonic-is}
-use Rattle.laws.proofs.Wanted.{wanted-in, in-wanted, wanted-ascending}
-use Rattle.laws.proofs.Generated.{call-of, call-accepted}
-use Rattle.laws.proofs.Remaining.{generated-few}
-use Rattle.laws.proofs.Shortest.{fewest}
-use Rattle.laws.proofs.Distances.{distance-zero, distance-one, distance-two, distance-beyond, distance-told}
+use Rattle.laws.proofs.Digits.Canonic.{canonic-is}
+use Rattle.laws.proofs.Constants.Wanted.{wanted-in, in-wanted, wanted-ascending}
+use Rattle.laws.proofs.Generator.Generated.{call-of, call-accepted}
+use Rattle.laws.proofs.Generator.Remaining.{generated-few}
+use Rattle.laws.proofs.Generator.Shortest.{fewest}
+use Rattle.laws.proofs.Distance.Distances.{distance-zero, distance-one, distance-two, distance-beyond, distance-told}
 use Rattle.tender.specs.Condition3.{WantedPart, Condition3}
 
 wanted-are : (ts : List ℤ) (c : ℕ) → List·Memᴰ c (wanted ts) ↔ WantedPart ts c

@@ -4,7 +4,7 @@ use mathlib.Core.Path.{_≡_}
 use mathlib.Core.Bool.{Bool, true, false}
 use mathlib.Core.List.{List, [], _∷_, _++_, map, List·Memᴰ, List·Permᴰ}
 use mathlib.Core.Logic.{_⊎_, _↔_}
-use Prim.Native.Nat.{ℕ, _+_, _-_, _*_, _%_, _^_, _≤_, _<_}
+use Prim.Native.Nat.{ℕ, _+_, _-_, _*_, _^_, _≤_, _<_}
 use lib.IntN.{ℤ, pos, negsuc}
 use lib.ListN.{length, getD}
 use Rattle.meaning.specs.declared.Answer.the-variants.{Refused}
@@ -18,6 +18,7 @@ use Rattle.meaning.specs.declared.Row.{Row}
 use Rattle.meaning.specs.Basics.{First, upFrom}
 use Rattle.meaning.specs.Limits.{limit, mostRows, mostReady}
 use Rattle.meaning.specs.Constants.{oddOf}
+use Rattle.meaning.specs.Operation.{Odd}
 use Rattle.meaning.specs.Graph.{rowLength, rows, values, Fits}
 use Rattle.meaning.specs.Generator.{generated}
 use Rattle.meaning.specs.Widths.{rowWidth, InOrder}
@@ -72,11 +73,11 @@ abbrev pub readyLengthOut : List ℕ → Situation
 readyLengthOut vals why = (why ≡ no.Ready 0) × (¬ ((1 ≤ length vals) × (length vals ≤ mostReady)))
 
 abbrev pub readyValueOut : ℕ → List ℕ → Situation
-readyValueOut b vals why = (p : ℕ) × (why ≡ no.Ready p) × First (λ _ v. ¬ ((v % 2 ≡ 1) × (v < 2 ^ limit b))) vals p
+readyValueOut b vals why = (p : ℕ) × (why ≡ no.Ready p) × First (λ _ v. ¬ (Odd (limit b) v)) vals p
 
 -- 11
 abbrev pub targetOut : ℕ → ℕ → Situation
-targetOut b c why = (why ≡ no.Target) × (¬ ((c % 2 ≡ 1) × (c < 2 ^ b)))
+targetOut b c why = (why ≡ no.Target) × (¬ (Odd b c))
 
 -- ---- the order of each call: the first situation that holds counts
 

@@ -1,11 +1,10 @@
 -- A form, byte by byte, as a reader meets it. Assumes nothing.
-use mathlib.Core.Path.{_≡_, refl, ap, _∙_, sym}
+use mathlib.Core.Path.{_≡_, refl, ap, _∙_}
 use mathlib.Core.Bool.{Bool, true, false, cond}
 use mathlib.Core.List.{List, [], _∷_}
-use Prim.Native.Nat.{ℕ, suc, _+_, _≤_, _<_}
+use Prim.Native.Nat.{ℕ, _+_, _≤_, _<_}
 use native.Mathlib.Nat.{add-zero}
 use native.Mathlib.Numerals.{add-one}
-use native.Mathlib.Omega.{arith}
 use lib.Dec.{eqb}
 use lib.IntN.{ℤ}
 use lib.ListN.{length, getD, drop, set, drop-of-length-le}
@@ -13,7 +12,7 @@ use Rattle.meaning.specs.declared.Read.{Read}
 use Rattle.meaning.specs.declared.Read.the-variants as read
 use Rattle.meaning.specs.Text.{stands, numberAt}
 use Rattle.meaning.specs.Forms.{taken, Line, good, bad, onRead, front, readNumber, readByte, lineAt}
-use Rattle.laws.proofs.Numerals.{rest-cons}
+use Rattle.laws.proofs.Text.Numerals.{rest-cons}
 use Rattle.text.specs.declared.forms.End.{End}
 use Rattle.text.specs.declared.forms.End.the-variants.{At, Bad}
 use Rattle.text.specs.declared.forms.Fields.{Fields}

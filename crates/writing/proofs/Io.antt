@@ -8,7 +8,7 @@ use native.Mathlib.Omega.{arith}
 use lib.Dec.{ltb}
 use borrow.Author.Tests.{lt-ltb, ltb-true, ltb-false}
 use Rattle.meaning.specs.Text.{decimalIn, unsignedText}
-use Rattle.laws.proofs.Numerals.{dec-large}
+use Rattle.laws.proofs.Text.Numerals.{dec-large}
 use Rattle.io.specs.Digits.{digits, Fewest, glyph}
 
 io-digits : (k f n : ℕ) → Fewest 10 1 n (suc k) → k ≤ f → digits 10 (suc k) n ≡ decimalIn (suc f) n

@@ -12,7 +12,7 @@ use lib.Signed.{ltZ}
 use borrow.Author.Tests.{ltb-true}
 use Rattle.meaning.specs.Forms.{piece, taken, lineOf, linesOf}
 use Rattle.meaning.specs.Text.{unsignedText, textOf}
-use Rattle.laws.proofs.Forms.{line-more, line-end, lines-more, lines-part}
+use Rattle.laws.proofs.Text.Forms.{line-more, line-end, lines-more, lines-part}
 use Rattle.writing.specs.Wrote.{Wrote}
 
 -- two runs of stores are one, with no condition on the buffer's length

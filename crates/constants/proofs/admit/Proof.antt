@@ -2,7 +2,6 @@
 use mathlib.Core.Path.{_≡_, sym, _∙_}
 use mathlib.Core.Bool.{Bool, true}
 use mathlib.Core.List.{List, [], _∷_}
-use Prim.Native.Nat.{ℕ}
 use borrow.Author.Needs.{needs}
 use borrow.Author.Tests.{not-true, not-false}
 use lib.Dec.{leb→le}
@@ -12,8 +11,8 @@ use Rattle.meaning.specs.declared.Refusal.the-variants as no
 use Rattle.meaning.specs.Basics.{all}
 use Rattle.meaning.specs.Limits.{between, bitTests, mostTargets}
 use Rattle.meaning.specs.Refusals.{admitted, listLength, oddParts}
-use Rattle.laws.proofs.Tests.{T-of, all-of}
-use Rattle.laws.proofs.Stages.{stops, passes, last}
+use Rattle.laws.proofs.Lists.Tests.{T-of, all-of}
+use Rattle.laws.proofs.Refusals.Stages.{stops, passes, last}
 use Rattle.constants.proofs.admit.Statement.{statement}
 use Rattle.constants.proofs.admit.Tie as tie
 

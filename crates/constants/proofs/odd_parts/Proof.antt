@@ -2,7 +2,7 @@
 use mathlib.Core.Path.{_≡_, refl, sym, ap, _∙_}
 use mathlib.Core.Bool.{Bool}
 use mathlib.Core.List.{List}
-use Prim.Native.Nat.{ℕ, _+_, _*_, _-_, _%_, _^_, _≤_}
+use Prim.Native.Nat.{ℕ, _*_, _-_, _%_, _^_, _≤_}
 use native.Mathlib.Omega.{arith}
 use borrow.Author.Needs.{needs}
 use borrow.Author.Tests.{lt-ltb, le-ltb}
@@ -12,11 +12,10 @@ use lib.ListN.{length, take, drop, getD}
 use lib.Pow.{shl-exact}
 use mir.Syntax.{w32}
 use mir.ValLaws.{toZ-ofZ}
-use Rattle.meaning.specs.declared.Answer.the-variants.{Refused}
 use Rattle.meaning.specs.declared.Refusal.the-variants.{OddPart}
 use Rattle.meaning.specs.Constants.{oddOf, apart}
 use Rattle.meaning.specs.Refusals.{needEach, oddParts}
-use Rattle.laws.proofs.Members.{each-miss, each-hit, each-end}
+use Rattle.laws.proofs.Refusals.Members.{each-miss, each-hit, each-end}
 use Rattle.constants.proofs.odd_parts.Statement.{statement}
 use Rattle.constants.proofs.odd_parts.Tie as tie
 use Rattle.constants.proofs.odd_parts.Reads as reads

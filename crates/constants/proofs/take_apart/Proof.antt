@@ -6,7 +6,7 @@ use borrow.Author.Needs.{needs}
 use lib.IntN.{pos, negsuc, natAbs}
 use mir.Syntax.{w32}
 use mir.ValLaws.{toZ-ofZ}
-use Rattle.laws.proofs.Zeros.{machine-is, zeros-low}
+use Rattle.laws.proofs.Whole.Zeros.{machine-is, zeros-low}
 use Rattle.constants.proofs.Laws.{found, at-zero, at-below, at-above}
 use Rattle.constants.proofs.take_apart.Statement.{statement}
 use Rattle.constants.proofs.take_apart.Tie as tie

@@ -3,7 +3,7 @@ use mathlib.Core.Path.{ap, _∙_, subst⁻¹}
 use Prim.Native.Nat.{_<_, _≤_, _^_}
 use native.Mathlib.Omega.{arith}
 use Rattle.meaning.specs.Basics.{zeros}
-use Rattle.laws.proofs.Zeros.{machine-is}
+use Rattle.laws.proofs.Whole.Zeros.{machine-is}
 use Rattle.digits.specs.Held.{oddPart, near}
 use Rattle.digits.proofs.Laws.{odd-word, near-positive, near-most, last-is}
 use borrow.Author.Needs.{needs}

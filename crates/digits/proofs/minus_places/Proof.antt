@@ -2,8 +2,8 @@
 -- What is left falls. Assumes nothing.
 use native.Mathlib.Omega.{arith}
 use borrow.Author.Needs.{needs}
-use Rattle.laws.proofs.Canonic.{above-less}
-use Rattle.laws.proofs.Places.{minus-half}
+use Rattle.laws.proofs.Digits.Canonic.{above-less}
+use Rattle.laws.proofs.Digits.Places.{minus-half}
 use Rattle.digits.proofs.Laws.{Adding, Turn, add-step, add-low, add-end}
 use Rattle.digits.proofs.minus_places.Statement.{statement}
 use Rattle.digits.proofs.minus_places.Tie as tie

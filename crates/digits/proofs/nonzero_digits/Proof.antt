@@ -5,8 +5,8 @@ use Prim.Native.Nat.{_+_, _≤_}
 use native.Mathlib.Omega.{arith}
 use borrow.Author.Needs.{needs}
 use Rattle.meaning.specs.Digits.{canonic, nonzeros}
-use Rattle.laws.proofs.Canonic.{above-less}
-use Rattle.laws.proofs.Count.{nonzeros-zero, nonzeros-step, few-seventeen}
+use Rattle.laws.proofs.Digits.Canonic.{above-less}
+use Rattle.laws.proofs.Digits.Count.{nonzeros-zero, nonzeros-step, few-seventeen}
 use Rattle.digits.proofs.nonzero_digits.Statement.{statement}
 use Rattle.digits.proofs.nonzero_digits.Tie as tie
 

@@ -4,7 +4,7 @@ use Prim.Native.Nat.{_/_, _^_, _<_}
 use native.Mathlib.Omega.{arith}
 use lib.Count.{trailingZeros}
 use Rattle.meaning.specs.Basics.{zeros}
-use Rattle.laws.proofs.Zeros.{machine-is, zeros-low}
+use Rattle.laws.proofs.Whole.Zeros.{machine-is, zeros-low}
 use Rattle.digits.specs.Held.{oddPart}
 use Rattle.digits.proofs.Laws.{odd-zero}
 use Rattle.digits.proofs.odd_part.Statement.{statement}

@@ -1,6 +1,6 @@
 -- `digits::prefix_count` meets its contract: the prefixes are one fewer than the nonzero digits. Assumes nothing.
 use native.Mathlib.Omega.{arith}
-use Rattle.laws.proofs.Chain.{length-prefixes}
+use Rattle.laws.proofs.Digits.Chain.{length-prefixes}
 use borrow.Author.Needs.{needs}
 use Rattle.digits.proofs.prefix_count.Statement.{statement}
 use Rattle.digits.proofs.prefix_count.Tie as tie

@@ -3,7 +3,7 @@ use mathlib.Core.Path.{sym, _∙_}
 use native.Mathlib.Omega.{arith}
 use borrow.Author.Needs.{needs}
 use lib.Dec.{leb→le}
-use Rattle.laws.proofs.Tests.{T-of}
+use Rattle.laws.proofs.Lists.Tests.{T-of}
 use Rattle.search.specs.Marks.{shortLimit, longLimit}
 use Rattle.search.proofs.Marks.{start-of}
 use Rattle.distance.proofs.beyond_zero.Statement.{statement}

@@ -3,7 +3,7 @@
 use mathlib.Core.Path.{_≡_, sym, ap, _∙_}
 use mathlib.Core.Bool.{Bool, true}
 use mathlib.Core.List.{List}
-use Prim.Native.Nat.{ℕ, _+_, _^_, _≤_}
+use Prim.Native.Nat.{ℕ, _^_, _≤_}
 use native.Mathlib.Omega.{arith}
 use borrow.Author.Needs.{needs}
 use lib.ListN.{length, take}
@@ -14,8 +14,8 @@ use Rattle.meaning.specs.Basics.{has}
 use Rattle.meaning.specs.Distance.{distance}
 use Rattle.meaning.specs.Limits.{limit}
 use Rattle.meaning.specs.Refusals.{distanceTold}
-use Rattle.laws.proofs.Choices.{getD-in}
-use Rattle.laws.proofs.Distances.{distance-told, distance-refused, Askable, askable-of}
+use Rattle.laws.proofs.Lists.Index.{getD-in}
+use Rattle.laws.proofs.Distance.Distances.{distance-told, distance-refused, Askable, askable-of}
 use Rattle.search.specs.Marks.{Ready}
 use Rattle.distance.proofs.distance.Statement.{statement}
 use Rattle.distance.proofs.distance.Tie as tie

@@ -8,7 +8,7 @@ use lib.ListN.{length}
 use lib.Seq.{length-take-le}
 use Rattle.meaning.specs.Limits.{mostRows}
 use Rattle.meaning.specs.Generator.{remaining, added}
-use Rattle.laws.proofs.Remaining.{remaining-in}
+use Rattle.laws.proofs.Generator.Remaining.{remaining-in}
 use Rattle.constants.specs.Held.{kept}
 use Rattle.search.specs.Listed.{listed}
 use Rattle.generator.specs.Growth.{drawnRows, Open, Grown}

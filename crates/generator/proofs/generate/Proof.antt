@@ -10,8 +10,8 @@ use Rattle.meaning.specs.declared.Refusal.the-variants as no
 use Rattle.meaning.specs.Limits.{limit}
 use Rattle.meaning.specs.Refusals.{admitted}
 use lib.Dec.{leb, leb→le}
-use Rattle.laws.proofs.Tests.{T-of}
-use Rattle.laws.proofs.Checked.{admitted-of}
+use Rattle.laws.proofs.Lists.Tests.{T-of}
+use Rattle.laws.proofs.Refusals.Checked.{admitted-of}
 use Rattle.search.specs.Marks.{shortLimit, longLimit}
 use Rattle.search.proofs.Marks.{start-of}
 use Rattle.generator.proofs.Answers.{drawn-stops, drawn-short, told-refused}

@@ -1,6 +1,6 @@
 -- `rows_by` meets its contract: all rows of the rule and their count. Assumes nothing.
-use mathlib.Core.Path.{_≡_, sym, ap, _∙_, subst⁻¹}
-use mathlib.Core.List.{List, []}
+use mathlib.Core.Path.{_≡_, ap, _∙_, subst⁻¹}
+use mathlib.Core.List.{List}
 use Prim.Native.Nat.{ℕ, _-_, _≤_}
 use native.Mathlib.Omega.{arith}
 use borrow.Author.Needs.{needs}
@@ -11,9 +11,9 @@ use Rattle.meaning.specs.Graph.{flat}
 use Rattle.meaning.specs.Basics.{over}
 use Rattle.meaning.specs.declared.Row.{Row}
 use Rattle.meaning.specs.Generator.{generated}
-use Rattle.laws.proofs.Checked.{Admitted, admitted-of}
-use Rattle.laws.proofs.Wanted.{wanted-length}
-use Rattle.laws.proofs.Generated.{few-rows, drawn-accepts}
+use Rattle.laws.proofs.Refusals.Checked.{Admitted, admitted-of}
+use Rattle.laws.proofs.Constants.Wanted.{wanted-length}
+use Rattle.laws.proofs.Generator.Generated.{few-rows, drawn-accepts}
 use Rattle.constants.specs.Held.{kept}
 use Rattle.constants.proofs.Insertion.{held-list, held-count}
 use Rattle.generator.specs.Rule.{AllServable, turned, Drawable}

@@ -6,7 +6,7 @@ use lib.ListN.{length, take}
 use Rattle.meaning.specs.declared.Refusal.the-variants.{Unserved}
 use Rattle.meaning.specs.Graph.{rows, values, served?}
 use Rattle.meaning.specs.Refusals.{needEach}
-use Rattle.laws.proofs.Graphs.{length-rows, length-values, values-part}
+use Rattle.laws.proofs.Graph.Rows.{length-rows, length-values, values-part}
 use Rattle.graph.proofs.all_served.Statement.{statement}
 use Rattle.graph.proofs.all_served.Tie as tie
 

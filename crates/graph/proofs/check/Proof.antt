@@ -14,9 +14,9 @@ use Rattle.meaning.specs.declared.Refusal.the-variants as no
 use Rattle.meaning.specs.Basics.{all}
 use Rattle.meaning.specs.Graph.{rowLength, rowTests, rows}
 use Rattle.meaning.specs.Refusals.{admitOrder, rowCount, validRows, allServed, admitted, checked, firstOf}
-use Rattle.laws.proofs.Tests.{T-of, all-of}
-use Rattle.laws.proofs.Stages.{stops, passes, last, stops-at, passes-on}
-use Rattle.laws.proofs.Checked.{Admitted, admitted-of}
+use Rattle.laws.proofs.Lists.Tests.{T-of, all-of}
+use Rattle.laws.proofs.Refusals.Stages.{stops, passes, last, stops-at, passes-on}
+use Rattle.laws.proofs.Refusals.Checked.{Admitted, admitted-of}
 use Rattle.graph.proofs.check.Statement.{statement}
 use Rattle.graph.proofs.check.Tie as tie
 

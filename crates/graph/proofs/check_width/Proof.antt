@@ -6,7 +6,7 @@ use borrow.Author.Tests.{not-true, not-false}
 use Rattle.meaning.specs.declared.Refusal.the-variants as no
 use Rattle.meaning.specs.Limits.{widthTests}
 use Rattle.meaning.specs.Refusals.{checkOrder, inputWidth, checked, sized, firstOf}
-use Rattle.laws.proofs.Stages.{stops, passes, stops-at, passes-on}
+use Rattle.laws.proofs.Refusals.Stages.{stops, passes, stops-at, passes-on}
 use Rattle.graph.proofs.check_width.Statement.{statement}
 use Rattle.graph.proofs.check_width.Tie as tie
 

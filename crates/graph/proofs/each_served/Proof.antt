@@ -2,7 +2,7 @@
 use mathlib.Core.Path.{_≡_, refl, sym, ap, _∙_}
 use mathlib.Core.Bool.{Bool, _||_}
 use mathlib.Core.List.{List, []}
-use Prim.Native.Nat.{ℕ, _+_, _-_, _≤_}
+use Prim.Native.Nat.{ℕ, _-_, _≤_}
 use native.Mathlib.Omega.{arith}
 use borrow.Author.Needs.{needs}
 use borrow.Author.Tests.{not-true, not-false}
@@ -11,13 +11,12 @@ use lib.IntN.{ℤ, pos}
 use lib.ListN.{length, take, drop, getD}
 use mir.Syntax.{w32}
 use mir.ValLaws.{toZ-ofZ}
-use Rattle.meaning.specs.declared.Answer.the-variants.{Refused}
 use Rattle.meaning.specs.declared.Refusal.the-variants.{Unserved}
 use Rattle.meaning.specs.Basics.{has}
 use Rattle.meaning.specs.Constants.{apart}
 use Rattle.meaning.specs.Graph.{served?}
 use Rattle.meaning.specs.Refusals.{needEach}
-use Rattle.laws.proofs.Members.{each-miss, each-hit, each-end}
+use Rattle.laws.proofs.Refusals.Members.{each-miss, each-hit, each-end}
 use Rattle.graph.proofs.each_served.Statement.{statement}
 use Rattle.graph.proofs.each_served.Tie as tie
 

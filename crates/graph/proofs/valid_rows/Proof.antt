@@ -1,17 +1,16 @@
 -- `valid_rows` meets its contract. The loop's invariant: the answer for the rows is the answer for what is left of them. Assumes nothing.
-use mathlib.Core.Path.{_≡_, refl, sym, ap, ap₂, _∙_}
-use Prim.Native.Nat.{_+_, _*_, _-_, _≤_}
+use mathlib.Core.Path.{_≡_, refl, sym, ap₂, _∙_}
+use Prim.Native.Nat.{_-_, _≤_}
 use native.Mathlib.Omega.{arith}
 use borrow.Author.Needs.{needs}
 use borrow.Author.Tests.{not-true, not-false}
-use lib.ListN.{length, getD, take, drop}
-use Rattle.meaning.specs.declared.Answer.the-variants.{Refused}
+use lib.ListN.{getD, take, drop}
 use Rattle.meaning.specs.declared.Refusal.the-variants as no
 use Rattle.meaning.specs.Limits.{limit}
 use Rattle.meaning.specs.Graph.{rowAfter, rows, fits?}
 use Rattle.meaning.specs.Refusals.{needEach, validRows}
-use Rattle.laws.proofs.Graphs.{length-rows, rows-take, row-of}
-use Rattle.laws.proofs.Members.{each-miss, each-hit, each-end}
+use Rattle.laws.proofs.Graph.Rows.{length-rows, rows-take, row-of}
+use Rattle.laws.proofs.Refusals.Members.{each-miss, each-hit, each-end}
 use Rattle.graph.proofs.valid_rows.Statement.{statement}
 use Rattle.graph.proofs.valid_rows.Tie as tie
 

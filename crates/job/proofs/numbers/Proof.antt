@@ -13,8 +13,8 @@ use borrow.Author.Tests.{not-true, not-false}
 use Rattle.meaning.specs.declared.Read.the-variants.{Number}
 use Rattle.meaning.specs.Text.{bytes, numberAt}
 use Rattle.meaning.specs.Job.{numbers}
-use Rattle.laws.proofs.Numerals.{number-read}
-use Rattle.laws.proofs.Texts.{stands-within}
+use Rattle.laws.proofs.Text.Numerals.{number-read}
+use Rattle.laws.proofs.Text.Bytes.{stands-within}
 use Rattle.job.specs.Held.{targetsOf, noTargets}
 use Rattle.job.proofs.Kept.{numbers-none, numbers-open, numbers-last, numbers-more, targets-front, targets-one, targets-bad}
 use Rattle.job.proofs.numbers.Statement.{statement}

@@ -5,7 +5,7 @@ use native.Mathlib.Omega.{arith}
 use borrow.Author.Needs.{needs}
 use Rattle.meaning.specs.Text.{bytes, stands}
 use Rattle.meaning.specs.Job.{reportLine}
-use Rattle.laws.proofs.Texts.{stands-within}
+use Rattle.laws.proofs.Text.Bytes.{stands-within}
 use Rattle.job.specs.Held.{orderOf}
 use Rattle.job.proofs.report_line.Statement.{statement}
 use Rattle.job.proofs.report_line.Tie as tie

@@ -6,7 +6,7 @@ use borrow.Author.Needs.{needs}
 use borrow.Author.Tests.{not-true, not-false}
 use Rattle.meaning.specs.Text.{bytes, stands}
 use Rattle.meaning.specs.Job.{targetsLine}
-use Rattle.laws.proofs.Texts.{stands-within}
+use Rattle.laws.proofs.Text.Bytes.{stands-within}
 use Rattle.job.specs.Held.{targetsOf}
 use Rattle.job.proofs.targets_line.Statement.{statement}
 use Rattle.job.proofs.targets_line.Tie as tie

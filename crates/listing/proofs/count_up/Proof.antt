@@ -5,7 +5,7 @@ use native.Mathlib.Omega.{arith}
 use borrow.Author.Needs.{needs}
 use lib.ListN.{length, length-set}
 use Rattle.meaning.specs.Basics.{upFrom, over}
-use Rattle.laws.proofs.Stages.{over-none}
+use Rattle.laws.proofs.Refusals.Stages.{over-none}
 use Rattle.listing.proofs.Laws.{counted}
 use Rattle.listing.proofs.count_up.Statement.{statement}
 use Rattle.listing.proofs.count_up.Tie as tie

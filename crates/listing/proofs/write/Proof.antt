@@ -1,14 +1,13 @@
 -- `write` meets its contract: the rows' values and their order, and then the listing by them. Assumes nothing.
-use mathlib.Core.Path.{_≡_, refl, sym, ap, _∙_}
-use Prim.Native.Nat.{ℕ, _≤_}
+use mathlib.Core.Path.{_≡_, sym, ap, _∙_}
 use native.Mathlib.Omega.{arith}
 use borrow.Author.Needs.{needs}
 use lib.ListN.{length, take}
 use lib.Seq.{length-take-le}
 use Rattle.meaning.specs.Graph.{rows, values}
 use Rattle.meaning.specs.Listing.{rowOrder}
-use Rattle.laws.proofs.Graphs.{length-rows, length-values}
-use Rattle.laws.proofs.Listings.{order-length}
+use Rattle.laws.proofs.Graph.Rows.{length-rows, length-values}
+use Rattle.laws.proofs.Text.Listings.{order-length}
 use Rattle.writing.proofs.Writing.{same-text}
 use Rattle.listing.proofs.Laws.{front-of, order-count, order-rows, printed-is}
 use Rattle.listing.proofs.write.Statement.{statement}

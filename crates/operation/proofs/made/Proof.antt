@@ -11,7 +11,7 @@ use mir.Syntax.{w64}
 use mir.Val.{SFits}
 use mir.ValLaws.{toZ-ofZ}
 use Rattle.meaning.specs.Basics.{all}
-use Rattle.laws.proofs.Tests.{all-of, T-of}
+use Rattle.laws.proofs.Lists.Tests.{all-of, T-of}
 use Rattle.operation.specs.Code.{outcomeOf}
 use Rattle.operation.proofs.Laws.{operated-not, operated-by}
 use Rattle.operation.proofs.made.Statement.{statement}

@@ -10,7 +10,7 @@ use Rattle.meaning.specs.declared.Operated.the-variants.{Invalid}
 use Rattle.meaning.specs.Basics.{all}
 use Rattle.meaning.specs.Limits.{bitTests, limit}
 use Rattle.meaning.specs.Operation.{operated, operatedUnder}
-use Rattle.laws.proofs.Tests.{all-of, T-of}
+use Rattle.laws.proofs.Lists.Tests.{all-of, T-of}
 use Rattle.operation.proofs.operate.Statement.{statement}
 use Rattle.operation.proofs.operate.Tie as tie
 

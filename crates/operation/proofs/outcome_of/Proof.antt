@@ -9,7 +9,7 @@ use lib.Pow.{shl-exact, pow-mono}
 use mir.Syntax.{w64}
 use mir.ValLaws.{toZ-ofZ}
 use Rattle.meaning.specs.Basics.{zeros}
-use Rattle.laws.proofs.Zeros.{machine-is, zeros-low}
+use Rattle.laws.proofs.Whole.Zeros.{machine-is, zeros-low}
 use Rattle.operation.proofs.Laws.{outcome-made, outcome-none, outcome-over}
 use Rattle.operation.proofs.outcome_of.Statement.{statement}
 use Rattle.operation.proofs.outcome_of.Tie as tie

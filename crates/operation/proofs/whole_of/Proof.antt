@@ -6,7 +6,7 @@ use lib.IntN.{pos, _+ℤ_, _-ℤ_}
 use mir.Syntax.{w64}
 use mir.Val.{SFits, toZ}
 use mir.ValLaws.{toZ-ofZ, toZ-pos}
-use Rattle.laws.proofs.Integers.{abs-add, abs-sub, abs-fits}
+use Rattle.laws.proofs.Whole.Integers.{abs-add, abs-sub, abs-fits}
 use Rattle.operation.proofs.Laws.{whole-minus}
 use Rattle.operation.proofs.whole_of.Statement.{statement}
 use Rattle.operation.proofs.whole_of.Tie as tie

@@ -11,7 +11,7 @@ use mir.Syntax.{w32}
 use mir.ValLaws.{toZ-ofZ}
 use Rattle.meaning.specs.declared.Refusal.the-variants as no
 use Rattle.meaning.specs.Refusals.{checkOrder, buffer, checked, multiplied, productsWritten, firstOf}
-use Rattle.laws.proofs.Stages.{stops, passes, stops-at, passes-on, refused-done, accepted-done}
+use Rattle.laws.proofs.Refusals.Stages.{stops, passes, stops-at, passes-on, refused-done, accepted-done}
 use Rattle.products.proofs.multiply.Statement.{statement}
 use Rattle.products.proofs.multiply.Tie as tie
 

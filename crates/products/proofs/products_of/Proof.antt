@@ -10,7 +10,7 @@ use lib.Seq.{length-take-le}
 use mir.Syntax.{w32, w64}
 use mir.Val.{SFits, toZ, ofZ}
 use mir.ValLaws.{toZ-ofZ}
-use Rattle.laws.proofs.Signed.{wide}
+use Rattle.laws.proofs.Whole.Signed.{wide}
 use Rattle.meaning.specs.Graph.{rows}
 use Rattle.meaning.specs.Products.{products}
 use Rattle.products.proofs.Laws.{fill-start, fill-more}

@@ -8,8 +8,8 @@ use lib.ListN.{getD}
 use mir.Syntax.{w32, w64}
 use mir.Val.{SFits, toZ, ofZ}
 use mir.ValLaws.{toZ-ofZ}
-use Rattle.laws.proofs.Integers.{abs-mul, abs-fits}
-use Rattle.laws.proofs.Signed.{wide}
+use Rattle.laws.proofs.Whole.Integers.{abs-mul, abs-fits}
+use Rattle.laws.proofs.Whole.Signed.{wide}
 use Rattle.meaning.specs.Constants.{signOf, shiftOf, oddOf, apart}
 use Rattle.meaning.specs.Graph.{outputIndex}
 use Rattle.meaning.specs.Products.{targetProduct}

@@ -7,7 +7,7 @@ use lib.ListN.{length, take}
 use Rattle.meaning.specs.Basics.{every, over}
 use Rattle.meaning.specs.Graph.{rows, values, served?}
 use Rattle.meaning.specs.Products.{targetProduct}
-use Rattle.laws.proofs.Graphs.{length-rows, length-values, values-part}
+use Rattle.laws.proofs.Graph.Rows.{length-rows, length-values, values-part}
 use Rattle.products.specs.Worked.{Made}
 use Rattle.products.proofs.target_products.Statement.{statement}
 use Rattle.products.proofs.target_products.Tie as tie

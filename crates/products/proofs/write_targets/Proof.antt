@@ -11,7 +11,7 @@ use mir.Val.{SFits, toZ, ofZ}
 use mir.ValLaws.{toZ-ofZ}
 use Rattle.meaning.specs.Basics.{over}
 use Rattle.meaning.specs.Graph.{served?}
-use Rattle.laws.proofs.Over.{over-start, over-more, over-end}
+use Rattle.laws.proofs.Lists.Over.{over-start, over-more, over-end}
 use Rattle.meaning.specs.Products.{targetProduct}
 use Rattle.products.proofs.Laws.{every-at}
 use Rattle.products.proofs.write_targets.Statement.{statement}

@@ -1,14 +1,14 @@
 -- `put_row` meets its contract: a store for each word, one after the other. Assumes nothing.
 use mathlib.Core.Path.{_≡_}
 use mathlib.Core.List.{List}
-use Prim.Native.Nat.{ℕ, _+_, _*_, _≤_}
+use Prim.Native.Nat.{ℕ, _+_, _≤_}
 use native.Mathlib.Numerals.{add-one, add-two, add-three, add-four, add-five, add-six}
 use native.Mathlib.Omega.{arith}
 use lib.ListN.{length, set, length-set}
 use Rattle.meaning.specs.declared.Row.{Row}
 use Rattle.meaning.specs.Basics.{overAt}
 use Rattle.meaning.specs.Graph.{rowLength, words}
-use Rattle.laws.proofs.Over.{over-at-sets}
+use Rattle.laws.proofs.Lists.Over.{over-at-sets}
 use borrow.Author.Needs.{needs}
 use Rattle.rows.proofs.put_row.Statement.{statement}
 use Rattle.rows.proofs.put_row.Tie as tie

@@ -5,7 +5,7 @@ use Prim.Native.Nat.{ℕ, zero, suc, _-_, _≤_}
 use native.Mathlib.Omega.{arith}
 use borrow.Author.Needs.{needs}
 use Rattle.meaning.specs.Graph.{rowAfter, rows, valueAt}
-use Rattle.laws.proofs.Graphs.{value-is}
+use Rattle.laws.proofs.Graph.Rows.{value-is}
 use Rattle.rows.proofs.value_at.Statement.{statement}
 use Rattle.rows.proofs.value_at.Tie as tie
 

@@ -1,15 +1,15 @@
 -- `values` meets its contract. The loop's invariant: the values of the rows passed stand over the front. Assumes nothing.
 use mathlib.Core.Path.{_≡_, refl, sym, ap, ap₂, _∙_}
 use mathlib.Core.List.{List}
-use Prim.Native.Nat.{ℕ, _-_, _*_, _≤_, _<_}
+use Prim.Native.Nat.{ℕ, _-_, _≤_}
 use native.Mathlib.Omega.{arith}
 use borrow.Author.Needs.{needs}
 use lib.ListN.{length, take, set, length-set}
 use lib.Seq.{take-all}
 use Rattle.meaning.specs.Basics.{over}
 use Rattle.meaning.specs.Graph.{rows, values}
-use Rattle.laws.proofs.Over.{over-taken}
-use Rattle.laws.proofs.Graphs.{length-rows, length-values, value-is}
+use Rattle.laws.proofs.Lists.Over.{over-taken}
+use Rattle.laws.proofs.Graph.Rows.{length-rows, length-values, value-is}
 use Rattle.rows.proofs.values.Statement.{statement}
 use Rattle.rows.proofs.values.Tie as tie
 

@@ -1,7 +1,7 @@
 -- `within` meets its contract. Assumes nothing.
 use borrow.Author.Needs.{needs}
 use borrow.Author.Tests.{le-leb, lt-leb}
-use Rattle.laws.proofs.Tests.{and-true}
+use Rattle.laws.proofs.Lists.Tests.{and-true}
 use Rattle.rows.proofs.within.Statement.{statement}
 use Rattle.rows.proofs.within.Tie as tie
 

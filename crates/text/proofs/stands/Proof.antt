@@ -5,7 +5,7 @@ use Prim.Native.Nat.{_-_, _≤_}
 use native.Mathlib.Omega.{arith}
 use lib.ListN.{length, drop}
 use Rattle.meaning.specs.Text.{stands}
-use Rattle.laws.proofs.Texts.{stands-short, stands-other, stands-more, stands-end}
+use Rattle.laws.proofs.Text.Bytes.{stands-short, stands-other, stands-more, stands-end}
 use Rattle.text.proofs.stands.Statement.{statement}
 use Rattle.text.proofs.stands.Tie as tie
 

@@ -1,5 +1,5 @@
 -- `each_width` meets its contract. The loop's invariant: the widths of the values passed stand over the front. Assumes nothing.
-use mathlib.Core.Path.{_≡_, refl, ap, ap₂, _∙_}
+use mathlib.Core.Path.{_≡_, refl, ap₂, _∙_}
 use mathlib.Core.List.{map}
 use Prim.Native.Nat.{_-_, _≤_}
 use native.Mathlib.Omega.{arith}
@@ -7,7 +7,7 @@ use borrow.Author.Needs.{needs}
 use lib.ListN.{length, take, set, length-set}
 use Rattle.meaning.specs.Basics.{over}
 use Rattle.meaning.specs.Widths.{rowWidth}
-use Rattle.laws.proofs.Over.{over-start, over-more, over-end}
+use Rattle.laws.proofs.Lists.Over.{over-start, over-more, over-end}
 use Rattle.widths.proofs.each_width.Statement.{statement}
 use Rattle.widths.proofs.each_width.Tie as tie
 

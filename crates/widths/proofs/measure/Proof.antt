@@ -13,10 +13,10 @@ use Rattle.meaning.specs.Basics.{overAt}
 use Rattle.meaning.specs.Graph.{rows, values}
 use Rattle.meaning.specs.Widths.{rowWidth, outputWidth, widths}
 use Rattle.meaning.specs.Refusals.{sizedOrder, buffer, sized, measured, widthsWritten, firstOf}
-use Rattle.laws.proofs.Graphs.{length-rows, length-values}
-use Rattle.laws.proofs.Stages.{stops, passes, stops-at, passes-on, refused-done, accepted-done}
-use Rattle.laws.proofs.Checked.{GoodWidth, sized-of}
-use Rattle.laws.proofs.Over.{over-part}
+use Rattle.laws.proofs.Graph.Rows.{length-rows, length-values}
+use Rattle.laws.proofs.Refusals.Stages.{stops, passes, stops-at, passes-on, refused-done, accepted-done}
+use Rattle.laws.proofs.Refusals.Checked.{GoodWidth, sized-of}
+use Rattle.laws.proofs.Lists.Over.{over-part}
 use Rattle.widths.proofs.measure.Statement.{statement}
 use Rattle.widths.proofs.measure.Tie as tie
 

@@ -11,7 +11,7 @@ use mir.Syntax.{w32}
 use mir.ValLaws.{toZ-ofZ}
 use Rattle.meaning.specs.Basics.{overAt}
 use Rattle.meaning.specs.Widths.{outputWidth}
-use Rattle.laws.proofs.Over.{over-at-none, over-at-more}
+use Rattle.laws.proofs.Lists.Over.{over-at-none, over-at-more}
 use Rattle.widths.proofs.output_widths.Statement.{statement}
 use Rattle.widths.proofs.output_widths.Tie as tie
 

@@ -7,7 +7,7 @@ use lib.ListN.{length, take}
 use Rattle.meaning.specs.Basics.{over}
 use Rattle.meaning.specs.Graph.{rows, values}
 use Rattle.meaning.specs.Widths.{rowWidth}
-use Rattle.laws.proofs.Graphs.{length-rows, length-values, values-part}
+use Rattle.laws.proofs.Graph.Rows.{length-rows, length-values, values-part}
 use Rattle.widths.proofs.row_widths.Statement.{statement}
 use Rattle.widths.proofs.row_widths.Tie as tie
 

@@ -1,6 +1,5 @@
 -- `nth` meets its contract. Assumes nothing.
 use mathlib.Core.Path.{sym}
-use native.Mathlib.Omega.{arith}
 use lib.IntN.{pos}
 use lib.ListN.{List·getD-eq-default}
 use borrow.Author.Needs.{needs}

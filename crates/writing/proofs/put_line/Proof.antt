@@ -8,7 +8,7 @@ use mir.Syntax.{w64}
 use mir.Val.{SFits, toZ, ofZ}
 use mir.ValLaws.{toZ-ofZ}
 use borrow.Author.Needs.{needs}
-use Rattle.laws.proofs.Forms.{taken-most}
+use Rattle.laws.proofs.Text.Forms.{taken-most}
 use Rattle.writing.proofs.Writing.{Begun, begin, part-room, part-on, line-done}
 use Rattle.writing.proofs.put_line.Statement.{statement}
 use Rattle.writing.proofs.put_line.Tie as tie

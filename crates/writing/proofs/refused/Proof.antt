@@ -10,7 +10,7 @@ use mir.ValLaws.{toZ-pos}
 use borrow.Author.Needs.{needs}
 use Rattle.meaning.specs.Forms.{lineOf, refusedForm}
 use Rattle.meaning.specs.Listing.{refusedLine}
-use Rattle.laws.proofs.Listings.{refused-room}
+use Rattle.laws.proofs.Text.Listings.{refused-room}
 use Rattle.writing.proofs.Writing.{same-text}
 use Rattle.writing.proofs.refused.Statement.{statement}
 use Rattle.writing.proofs.refused.Tie as tie

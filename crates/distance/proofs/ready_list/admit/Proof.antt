@@ -12,8 +12,8 @@ use Rattle.meaning.specs.declared.Refusal.the-variants as no
 use Rattle.meaning.specs.Basics.{all}
 use Rattle.meaning.specs.Limits.{between, bitTests, mostReady}
 use Rattle.meaning.specs.Refusals.{readyLength, readyValues, target, distanceOrder, firstOf}
-use Rattle.laws.proofs.Tests.{pair-all, T-of, all-of}
-use Rattle.laws.proofs.Stages.{stops, passes, last, stops-at, passes-on}
+use Rattle.laws.proofs.Lists.Tests.{pair-all, T-of, all-of}
+use Rattle.laws.proofs.Refusals.Stages.{stops, passes, last, stops-at, passes-on}
 use Rattle.distance.proofs.ready_list.admit.Statement.{statement}
 use Rattle.distance.proofs.ready_list.admit.Tie as tie
 

@@ -6,7 +6,7 @@ use borrow.Author.Needs.{needs}
 use lib.ListN.{length, getD}
 use Rattle.meaning.specs.declared.Prefix.{Prefix}
 use Rattle.meaning.specs.Digits.{prefixes}
-use Rattle.laws.proofs.Choices.{getD-in}
+use Rattle.laws.proofs.Lists.Index.{getD-in}
 use Rattle.digits.specs.declared.Prefixes.{Prefixes}
 use Rattle.digits.specs.Held.{nothing, prefixesHeld}
 use Rattle.digits.proofs.Laws.{held-count, held-at}

@@ -5,7 +5,7 @@ use native.Mathlib.Omega.{arith}
 use borrow.Author.Needs.{needs}
 use lib.Count.{trailingZeros}
 use Rattle.meaning.specs.Basics.{zeros}
-use Rattle.laws.proofs.Zeros.{machine-is, zeros-low}
+use Rattle.laws.proofs.Whole.Zeros.{machine-is, zeros-low}
 use Rattle.generator.specs.declared.first_choice.Found.the-variants.{At}
 use Rattle.generator.proofs.FirstChoice.{choice-miss, choice-hit}
 use Rattle.generator.proofs.first_choice.choice.Statement.{statement}

@@ -3,8 +3,8 @@ use mathlib.Core.Path.{ap}
 use Prim.Native.Nat.{ℕ, _-_}
 use native.Mathlib.Omega.{arith}
 use borrow.Author.Needs.{needs}
-use Rattle.laws.proofs.Chain.{count-is}
-use Rattle.laws.proofs.Count.{few-seventeen}
+use Rattle.laws.proofs.Digits.Chain.{count-is}
+use Rattle.laws.proofs.Digits.Count.{few-seventeen}
 use Rattle.listing.proofs.head.cost.Statement.{statement}
 use Rattle.listing.proofs.head.cost.Tie as tie
 

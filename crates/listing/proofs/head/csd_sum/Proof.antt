@@ -7,7 +7,7 @@ use borrow.Author.Needs.{needs}
 use lib.ListN.{length, getD, drop}
 use Rattle.meaning.specs.Constants.{wanted}
 use Rattle.meaning.specs.Digits.{cost, csdSum}
-use Rattle.laws.proofs.Wanted.{wanted-length}
+use Rattle.laws.proofs.Constants.Wanted.{wanted-length}
 use Rattle.constants.proofs.Insertion.{held-count, held-value}
 use Rattle.listing.proofs.Laws.{sum-more, sum-end, wanted-positive}
 use Rattle.listing.proofs.head.csd_sum.Statement.{statement}

@@ -11,7 +11,7 @@ use mir.ValLaws.{toZ-ofZ, toZ-pos}
 use borrow.Author.Needs.{needs}
 use Rattle.meaning.specs.Forms.{lineOf, bitsForm, inputForm, addersForm, csdForm}
 use Rattle.meaning.specs.Listing.{reportText, headText}
-use Rattle.laws.proofs.Signed.{wide}
+use Rattle.laws.proofs.Whole.Signed.{wide}
 use Rattle.writing.specs.Wrote.{Wrote}
 use Rattle.writing.proofs.Writing.{_⨾_, room, front-fits}
 use Rattle.listing.proofs.head.head_lines.Statement.{statement}

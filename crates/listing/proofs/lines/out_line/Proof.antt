@@ -1,5 +1,5 @@
 -- `out_line` meets its contract: the target's numbers in its form. Assumes nothing.
-use mathlib.Core.Path.{_≡_, refl, ap, _∙_}
+use mathlib.Core.Path.{_≡_, ap, _∙_}
 use mathlib.Core.List.{[], _∷_}
 use Prim.Native.Nat.{_≤_}
 use native.Mathlib.Omega.{arith}
@@ -14,8 +14,8 @@ use Rattle.meaning.specs.Forms.{lineOf, outForm}
 use Rattle.meaning.specs.Graph.{outputIndex}
 use Rattle.meaning.specs.Limits.{mostRows}
 use Rattle.meaning.specs.Listing.{outWidth, outNumbers}
-use Rattle.laws.proofs.Listings.{index-most}
-use Rattle.laws.proofs.Signed.{wide}
+use Rattle.laws.proofs.Text.Listings.{index-most}
+use Rattle.laws.proofs.Whole.Signed.{wide}
 use Rattle.writing.proofs.Writing.{same-text}
 use Rattle.listing.proofs.lines.out_line.Statement.{statement}
 use Rattle.listing.proofs.lines.out_line.Tie as tie

@@ -1,7 +1,7 @@
 -- `row_lines` meets its contract. The loop's invariant: the lines of the rows passed are written. What is left of the order falls. Assumes nothing.
-use mathlib.Core.Path.{_≡_, refl, sym, ap, ap₂, _∙_}
+use mathlib.Core.Path.{_≡_, refl, sym, ap, _∙_}
 use mathlib.Core.List.{List, []}
-use Prim.Native.Nat.{ℕ, _-_, _≤_, _<_}
+use Prim.Native.Nat.{_-_, _≤_, _<_}
 use native.Mathlib.Omega.{arith}
 use lib.IntN.{ℤ}
 use lib.ListN.{length, take, getD}
@@ -9,11 +9,10 @@ use mir.Syntax.{w32}
 use mir.Val.{toZ, ofZ}
 use mir.ValLaws.{toZ-ofZ}
 use borrow.Author.Needs.{needs}
-use Rattle.meaning.specs.declared.Row.{Row}
 use Rattle.meaning.specs.Forms.{linesOf, rowForm}
 use Rattle.meaning.specs.Graph.{rowAt, rows}
 use Rattle.meaning.specs.Listing.{rowNumbers, rowsBy}
-use Rattle.laws.proofs.Graphs.{row-of}
+use Rattle.laws.proofs.Graph.Rows.{row-of}
 use Rattle.writing.specs.Wrote.{Wrote}
 use Rattle.writing.proofs.Writing.{lines-start, line-fits, line-on, lines-end}
 use Rattle.listing.proofs.Laws.{rows-length, rows-at}

@@ -1,14 +1,14 @@
 -- `wider` meets its contract: 64 bits hold the sum. Assumes nothing.
 use mathlib.Core.Path.{_≡_, refl}
 use native.Mathlib.Omega.{arith}
-use lib.IntN.{ℤ, pos, natAbs, _+ℤ_}
+use lib.IntN.{ℤ, pos, _+ℤ_}
 use mir.Syntax.{w32, w64}
 use mir.Val.{SFits, toZ, ofZ}
 use mir.ValLaws.{toZ-ofZ, toZ-pos}
 use borrow.Author.Needs.{needs}
-use Rattle.laws.proofs.Integers.{abs-add, abs-fits}
-use Rattle.laws.proofs.Listings.{magnitude-most}
-use Rattle.laws.proofs.Signed.{wide}
+use Rattle.laws.proofs.Whole.Integers.{abs-add, abs-fits}
+use Rattle.laws.proofs.Text.Listings.{magnitude-most}
+use Rattle.laws.proofs.Whole.Signed.{wide}
 use Rattle.listing.proofs.lines.wider.Statement.{statement}
 use Rattle.listing.proofs.lines.wider.Tie as tie
 

@@ -9,7 +9,7 @@ use lib.Signed.{quotZ}
 use mir.Syntax.{w64}
 use mir.Val.{SFits, toZ}
 use mir.ValLaws.{toZ-ofZ, toZ-pos}
-use Rattle.laws.proofs.Integers.{abs-fits, abs-quot}
+use Rattle.laws.proofs.Whole.Integers.{abs-fits, abs-quot}
 use Rattle.products.proofs.row_product.divided.Statement.{statement}
 use Rattle.products.proofs.row_product.divided.Tie as tie
 

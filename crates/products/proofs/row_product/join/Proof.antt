@@ -7,7 +7,7 @@ use lib.IntN.{pos, natAbs, _+ℤ_, _-ℤ_, _*ℤ_}
 use mir.Syntax.{w64}
 use mir.Val.{SFits}
 use mir.ValLaws.{toZ-ofZ}
-use Rattle.laws.proofs.Integers.{abs-add, abs-sub, abs-mul, abs-fits}
+use Rattle.laws.proofs.Whole.Integers.{abs-add, abs-sub, abs-mul, abs-fits}
 use Rattle.products.proofs.RowProductLaws.{joined-minus}
 use Rattle.products.proofs.row_product.join.Statement.{statement}
 use Rattle.products.proofs.row_product.join.Tie as tie

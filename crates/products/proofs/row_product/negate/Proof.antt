@@ -6,7 +6,7 @@ use lib.IntN.{ℤ, pos, _-ℤ_, +ℤ-idl}
 use mir.Syntax.{w64}
 use mir.Val.{SFits}
 use mir.ValLaws.{toZ-ofZ}
-use Rattle.laws.proofs.Integers.{abs-neg, abs-fits}
+use Rattle.laws.proofs.Whole.Integers.{abs-neg, abs-fits}
 use Rattle.meaning.specs.Products.{negatedIf}
 use Rattle.products.proofs.row_product.negate.Statement.{statement}
 use Rattle.products.proofs.row_product.negate.Tie as tie

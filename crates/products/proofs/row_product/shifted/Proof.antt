@@ -7,7 +7,7 @@ use lib.IntN.{pos, _*ℤ_}
 use mir.Syntax.{w64}
 use mir.Val.{SFits, toZ}
 use mir.ValLaws.{toZ-ofZ, toZ-pos}
-use Rattle.laws.proofs.Integers.{abs-mul, abs-fits}
+use Rattle.laws.proofs.Whole.Integers.{abs-mul, abs-fits}
 use Rattle.products.proofs.row_product.shifted.Statement.{statement}
 use Rattle.products.proofs.row_product.shifted.Tie as tie
 

@@ -10,7 +10,7 @@ use Rattle.meaning.specs.declared.Drawn.{Drawn}
 use Rattle.meaning.specs.declared.Drawn.the-variants as out
 use Rattle.meaning.specs.Job.{Asked, bitsOf}
 use Rattle.meaning.specs.Refusals.{Done, admitted, drawnTold, rowsWritten}
-use Rattle.laws.proofs.Generated.{call-of, call-rows, call-accepted, call-refused}
+use Rattle.laws.proofs.Generator.Generated.{call-of, call-rows, call-accepted, call-refused}
 use Rattle.writing.proofs.Writing.{same-text}
 use Rattle.reply.specs.Drawing.{Drawing}
 use Rattle.reply.proofs.Orders.{reply-refused}

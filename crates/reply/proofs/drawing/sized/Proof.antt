@@ -1,16 +1,13 @@
 -- `sized` meets its contract: refusal 9, or the listing. Assumes nothing.
 use mathlib.Core.Path.{_≡_, sym, ap, _∙_}
-use mathlib.Core.List.{[], _∷_}
-use native.Mathlib.Omega.{arith}
 use borrow.Author.Tests.{not-true, not-false}
 use lib.Dec.{leb→le}
-use lib.IntN.{pos}
 use mir.Syntax.{w32}
 use mir.Val.{SFits}
 use mir.ValLaws.{toZ-ofZ}
 use Rattle.meaning.specs.Job.{Asked, inputOf}
 use Rattle.meaning.specs.Limits.{widthTests}
-use Rattle.laws.proofs.Tests.{T-of, all-of, All}
+use Rattle.laws.proofs.Lists.Tests.{T-of, all-of, All}
 use Rattle.writing.proofs.Writing.{same-text}
 use Rattle.reply.proofs.Orders.{all-tests, drawn-listing, drawn-listable, reply-width, reply-listing}
 use borrow.Author.Needs.{needs}

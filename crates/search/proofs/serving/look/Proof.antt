@@ -3,7 +3,7 @@ use mathlib.Core.Path.{ap, _∙_}
 use Prim.Native.Nat.{ℕ, _%_}
 use native.Mathlib.Omega.{arith}
 use borrow.Author.Needs.{needs}
-use Rattle.laws.proofs.Zeros.{zeros-left}
+use Rattle.laws.proofs.Whole.Zeros.{zeros-left}
 use Rattle.search.proofs.Least.{look-none, look-one}
 use Rattle.search.proofs.serving.look.Statement.{statement}
 use Rattle.search.proofs.serving.look.Tie as tie

@@ -5,7 +5,7 @@ use native.Mathlib.Omega.{arith}
 use lib.ListN.{length, drop}
 use borrow.Author.Tests.{not-true, not-false}
 use Rattle.meaning.specs.Text.{span}
-use Rattle.laws.proofs.Numerals.{span-more, span-stop, span-end}
+use Rattle.laws.proofs.Text.Numerals.{span-more, span-stop, span-end}
 use Rattle.text.proofs.decimal.digits_end.Statement.{statement}
 use Rattle.text.proofs.decimal.digits_end.Tie as tie
 

@@ -1,6 +1,6 @@
 -- `number` meets its contract: a sign or none, and then digits; there is no number behind the text. Assumes nothing.
 use mathlib.Core.Path.{_∙_, sym}
-use Rattle.laws.proofs.Numerals.{number-minus, number-plain, number-none}
+use Rattle.laws.proofs.Text.Numerals.{number-minus, number-plain, number-none}
 use borrow.Author.Needs.{needs}
 use Rattle.text.proofs.decimal.number.Statement.{statement}
 use Rattle.text.proofs.decimal.number.Tie as tie

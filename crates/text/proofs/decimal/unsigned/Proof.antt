@@ -6,7 +6,7 @@ use native.Mathlib.Omega.{arith}
 use lib.ListN.{drop, take, getD}
 use borrow.Author.Tests.{not-true, not-false}
 use Rattle.meaning.specs.Text.{span, valueOf, plain?, ranged}
-use Rattle.laws.proofs.Numerals.{unsigned-none, unsigned-bad, unsigned-good, unsigned-long}
+use Rattle.laws.proofs.Text.Numerals.{unsigned-none, unsigned-bad, unsigned-good, unsigned-long}
 use borrow.Author.Needs.{needs}
 use Rattle.text.proofs.decimal.unsigned.Statement.{statement}
 use Rattle.text.proofs.decimal.unsigned.Tie as tie

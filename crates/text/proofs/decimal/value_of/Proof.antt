@@ -6,7 +6,7 @@ use native.Mathlib.Nat.{pow-suc, pow-le-pow-right}
 use native.Mathlib.Omega.{arith}
 use lib.ListN.{drop, take, getD}
 use Rattle.meaning.specs.Text.{span, valueOf}
-use Rattle.laws.proofs.Numerals.{span-digit, span-more, digit-range, value-more, value-end}
+use Rattle.laws.proofs.Text.Numerals.{span-digit, span-more, digit-range, value-more, value-end}
 use Rattle.text.proofs.decimal.value_of.Statement.{statement}
 use Rattle.text.proofs.decimal.value_of.Tie as tie
 

@@ -1,11 +1,11 @@
 -- `line_at` meets its contract. The loop's invariant: what is left of the form decides the rest. What is left of the form falls. Assumes nothing.
-use mathlib.Core.Path.{_≡_, refl, _∙_, sym, ap}
+use mathlib.Core.Path.{_≡_, refl, _∙_, sym}
 use Prim.Native.Nat.{_-_, _≤_}
 use native.Mathlib.Omega.{arith}
 use lib.ListN.{length, getD, drop}
 use borrow.Author.Needs.{needs}
 use Rattle.meaning.specs.Forms.{lineAt}
-use Rattle.laws.proofs.Forms.{taken-most}
+use Rattle.laws.proofs.Text.Forms.{taken-most}
 use Rattle.text.specs.Held.{fieldsOf, restOf}
 use Rattle.text.proofs.Rest.{rest-more, rest-end}
 use Rattle.text.proofs.forms.line_at.Statement.{statement}

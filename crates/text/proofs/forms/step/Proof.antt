@@ -1,10 +1,10 @@
 -- `step` meets its contract: what stands at the place, and the number that is read, decide the definition's step. Assumes nothing.
-use mathlib.Core.Path.{_≡_, refl, _∙_, sym}
+use mathlib.Core.Path.{refl, _∙_, sym}
 use native.Mathlib.Omega.{arith}
 use mir.Syntax.{w32}
 use mir.ValLaws.{toZ-ofZ}
 use borrow.Author.Tests.{eq-eqb, ne-eqb}
-use Rattle.laws.proofs.Texts.{stands-within}
+use Rattle.laws.proofs.Text.Bytes.{stands-within}
 use Rattle.text.specs.Held.{stepOf}
 use borrow.Author.Needs.{needs}
 use Rattle.text.proofs.forms.step.Statement.{statement}

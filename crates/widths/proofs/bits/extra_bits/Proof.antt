@@ -4,7 +4,7 @@ use native.Mathlib.Omega.{arith}
 use borrow.Author.Needs.{needs}
 use lib.Count.{leading-le}
 use Rattle.meaning.specs.Widths.{leastFrom, extraBits}
-use Rattle.laws.proofs.Widths.{machine-bits}
+use Rattle.laws.proofs.Widths.Extra.{machine-bits}
 use Rattle.widths.proofs.bits.extra_bits.Statement.{statement}
 use Rattle.widths.proofs.bits.extra_bits.Tie as tie
 

@@ -9,7 +9,7 @@ use lib.IntN.{natAbs}
 use mir.Syntax.{w32}
 use mir.ValLaws.{toZ-ofZ}
 use Rattle.meaning.specs.Widths.{extraBits}
-use Rattle.laws.proofs.Widths.{extra-small}
+use Rattle.laws.proofs.Widths.Extra.{extra-small}
 use Rattle.widths.proofs.bits.output_width.Statement.{statement}
 use Rattle.widths.proofs.bits.output_width.Tie as tie
 

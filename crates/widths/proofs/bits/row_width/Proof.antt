@@ -1,7 +1,6 @@
 -- `row_width` meets its contract: 32 bits of input and at most 32 more. Assumes nothing.
-use Prim.Native.Nat.{_+_, _≤_}
 use native.Mathlib.Omega.{arith}
-use Rattle.laws.proofs.Widths.{extra-small}
+use Rattle.laws.proofs.Widths.Extra.{extra-small}
 use borrow.Author.Needs.{needs}
 use Rattle.widths.proofs.bits.row_width.Statement.{statement}
 use Rattle.widths.proofs.bits.row_width.Tie as tie

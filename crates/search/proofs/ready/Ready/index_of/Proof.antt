@@ -6,7 +6,7 @@ use borrow.Author.Needs.{needs}
 use lib.ListN.{length}
 use Rattle.meaning.specs.Basics.{indexFrom}
 use Rattle.meaning.specs.Limits.{mostReady}
-use Rattle.laws.proofs.Products.{index-most}
+use Rattle.laws.proofs.Lists.Index.{index-most}
 use Rattle.search.specs.declared.ready.Ready.{Ready}
 use Rattle.search.specs.Listed.{listed}
 use Rattle.search.proofs.ReadyLaws.{list-length}

@@ -1,0 +1,3 @@
+-- Constants and wanted constants.
+pub mod Apart
+pub mod Wanted

@@ -1,0 +1,3 @@
+-- Distance.
+pub mod Reach
+pub mod Distances

@@ -1,0 +1,3 @@
+-- Graphs.
+pub mod Rows
+pub mod Bounds

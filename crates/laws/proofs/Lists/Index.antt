@@ -1,0 +1,78 @@
+-- The member at an index, and the lowest index that has a value: what it is, and as a loop meets it. Assumes nothing.
+use mathlib.Core.Path.{_≡_, refl, _∙_, subst}
+use mathlib.Core.Bool.{Bool, true, false, cond, _||_}
+use mathlib.Core.List.{List, [], _∷_, List·Memᴰ, List·Memᴰ·head, List·Memᴰ·tail}
+use Prim.Native.Nat.{ℕ, zero, suc, _+_, _≤_, _<_}
+use native.Mathlib.Nat.{le-of-suc-le-suc}
+use native.Mathlib.Numerals.{add-one}
+use native.Mathlib.Omega.{arith}
+use borrow.Author.Tests.{eq-eqb, ne-eqb}
+use lib.Dec.{T, eqb, eqb→eq}
+use lib.ListN.{length, getD, drop, drop-of-length-le}
+use lib.Seq.{drop-cons}
+use Rattle.meaning.specs.Basics.{has, indexFrom}
+use Rattle.laws.proofs.Lists.Tests.{eq→eqb, T-of}
+
+-- ---- the member at an index
+
+pub getD-in {ℓ} : {A : Type ℓ} (xs : List A) (i : ℕ) (d : A) → i < length xs → List·Memᴰ (getD xs i d) xs
+getD-in [] i d h = absurd (omega arith)
+getD-in (x ∷ xs) zero d h = List·Memᴰ·head refl
+getD-in (x ∷ xs) (suc i) d h = List·Memᴰ·tail (getD-in xs i d (omega arith))
+
+pub in-getD : {xs : List ℕ} {u : ℕ} → List·Memᴰ u xs → (i : ℕ) × (i < length xs) × (u ≡ getD xs i 0)
+in-getD (List·Memᴰ·head e) = (0, omega arith, e)
+in-getD (List·Memᴰ·tail j) = let (i, h, e) = in-getD j in (suc i, omega arith, e)
+
+-- ---- the lowest index of a value
+
+-- index i has c, and no lower index has
+pub record Lowest (xs : List ℕ) (c i : ℕ) : Type 0 where
+  pub inside : i < length xs
+  pub at : getD xs i 0 ≡ c
+  pub below : (j : ℕ) → j < i → getD xs j 0 ≡ c → ⊥
+
+-- nor has the value before the list, if it is another
+pub none-below : (x : ℕ) (xs : List ℕ) (c i : ℕ) → eqb x c ≡ false → ((j : ℕ) → j < i → getD xs j 0 ≡ c → ⊥) → (j : ℕ) → j < suc i → getD (x ∷ xs) j 0 ≡ c → ⊥
+none-below x xs c i e b zero h q = subst T e (eq→eqb x c q)
+none-below x xs c i e b (suc j) h q = b j (le-of-suc-le-suc h) q
+
+pub index-is : (k : ℕ) (xs : List ℕ) (c : ℕ) → T (has xs c) → (i : ℕ) × (indexFrom k xs c ≡ k + i) × Lowest xs c i
+unfolding indexFrom
+index-is k [] c t = absurd t
+index-is k (x ∷ xs) c t = go (eqb x c) refl t (λ q. index-is (suc k) xs c q)
+  where
+    go : (b : Bool) → eqb x c ≡ b → T (b || has xs c)
+        → (T (has xs c) → (i : ℕ) × (indexFrom (suc k) xs c ≡ suc k + i) × Lowest xs c i)
+        → (i : ℕ) × (cond b k (indexFrom (suc k) xs c) ≡ k + i) × Lowest (x ∷ xs) c i
+    go true e t rest = (0, omega arith, record { inside = omega arith; at = eqb→eq x c (T-of e); below = λ j h q. absurd (omega arith) })
+    go false e t rest =
+        let (i, f, l) = rest t in
+        (suc i, f ∙ omega arith, record { inside = let h = l .inside in omega arith; at = l .at; below = none-below x xs c i e (l .below) })
+
+-- it is inside the list also where none has c
+pub index-inside : (k : ℕ) (xs : List ℕ) (c : ℕ) → 0 < k + length xs → indexFrom k xs c < k + length xs
+unfolding indexFrom
+index-inside k [] c h = h
+index-inside k (x ∷ xs) c h = go (eqb x c) (index-inside (suc k) xs c (omega arith))
+  where
+    go : (b : Bool) → indexFrom (suc k) xs c < suc k + length xs → cond b k (indexFrom (suc k) xs c) < k + suc (length xs)
+    go true l = omega arith
+    go false l = omega arith
+
+pub index-most : (xs : List ℕ) (c : ℕ) → indexFrom 0 xs c ≤ length xs
+index-most [] c = unfold indexFrom in (omega arith)
+index-most (x ∷ xs) c = omega (arith, index-inside 0 (x ∷ xs) c (omega arith))
+
+-- the same as a loop over the list meets it: the index for all is the index for what is left
+pub index-miss : (k i : ℕ) (xs : List ℕ) (c : ℕ) → i < length xs → (getD xs i 0 ≡ c → ⊥) → indexFrom k (drop i xs) c ≡ indexFrom (k + 1) (drop (i + 1) xs) c
+unfolding indexFrom
+index-miss k i xs c h n = rw (drop-cons xs i 0 h, ne-eqb (getD xs i 0) c n, add-one k, add-one i)
+
+pub index-hit : (k i : ℕ) (xs : List ℕ) (c : ℕ) → i < length xs → getD xs i 0 ≡ c → indexFrom k (drop i xs) c ≡ k
+unfolding indexFrom
+index-hit k i xs c h e = rw (drop-cons xs i 0 h, eq-eqb (getD xs i 0) c e)
+
+pub index-end : (k i : ℕ) (xs : List ℕ) (c : ℕ) → length xs ≤ i → indexFrom k (drop i xs) c ≡ 0
+unfolding indexFrom
+index-end k i xs c h = rw (drop-of-length-le xs h)

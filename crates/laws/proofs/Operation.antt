@@ -1,0 +1,3 @@
+-- The operation.
+pub mod Result
+pub mod Inverse

@@ -1,0 +1,28 @@
+-- The order of a job that is not malformed, as code meets it: the generator's refusals, then the input width. Assumes nothing.
+use mathlib.Core.Path.{_≡_, refl, sym, ap, _∙_}
+use mathlib.Core.List.{List, [], _∷_}
+use lib.Dec.{leb, le→leb}
+use lib.ListN.{length}
+use Rattle.meaning.specs.declared.Answer.{Answer}
+use Rattle.meaning.specs.declared.Answer.the-variants.{Accepted, Refused}
+use Rattle.meaning.specs.declared.Refusal.{Refusal}
+use Rattle.meaning.specs.declared.Refusal.the-variants as no
+use Rattle.meaning.specs.Limits.{mostRows}
+use Rattle.meaning.specs.Job.{Asked, bitsOf, inputOf, rowsOf, jobOrder}
+use Rattle.meaning.specs.Refusals.{admitOrder, admitted, fewRows, inputWidth, firstOf}
+use Rattle.laws.proofs.Generator.Generated.{few-rows}
+use Rattle.laws.proofs.Refusals.Stages.{stops-at, passes-on, of-need}
+
+module _ (j : Asked) where
+  abbrev late : List Answer
+  late = fewRows (rowsOf j) ∷ inputWidth (inputOf (j .head)) ∷ []
+
+  pub job-stops : (why : Refusal) → admitted (bitsOf (j .head)) (j .targets) ≡ Refused why → firstOf (jobOrder j) ≡ Refused why
+  unfolding admitted
+  job-stops why e = sym (stops-at (admitOrder (bitsOf (j .head)) (j .targets)) late (Refused why) why (sym e) refl)
+
+  pub job-passes : admitted (bitsOf (j .head)) (j .targets) ≡ Accepted → firstOf (jobOrder j) ≡ firstOf (inputWidth (inputOf (j .head)) ∷ [])
+  job-passes e =
+      let few = of-need no.TooManyRows (leb (length (rowsOf j)) mostRows ∷ []) (le→leb _ _ (few-rows (bitsOf (j .head)) (j .targets) e), tt) in
+      let past : firstOf (jobOrder j) ≡ firstOf late = unfold admitted in (passes-on (admitOrder (bitsOf (j .head)) (j .targets)) late Accepted (sym e) refl) in
+      past ∙ ap (λ (a : Answer). firstOf (a ∷ inputWidth (inputOf (j .head)) ∷ [])) few

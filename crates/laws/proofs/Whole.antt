@@ -1,0 +1,4 @@
+-- Whole numbers.
+pub mod Integers
+pub mod Signed
+pub mod Zeros
