@@ -1,9 +1,10 @@
 -- `out_line` meets its contract: the target's numbers in its form. Assumes nothing.
 use mathlib.Core.Path.{_≡_, ap, _∙_}
-use mathlib.Core.List.{[], _∷_}
+use mathlib.Core.List.{List, [], _∷_}
 use Prim.Native.Nat.{_≤_}
 use native.Mathlib.Omega.{arith}
 use lib.IntN.{ℤ, pos}
+use lib.ListN.{length}
 use mir.Syntax.{w32, w64}
 use mir.Val.{Fits, SFits, toZ, ofZ}
 use mir.ValLaws.{toZ-ofZ, toZ-pos}
@@ -94,7 +95,9 @@ slice-aggregate-put-line-2 : tie.Need-slice-aggregate-put-line-2
 slice-aggregate-put-line-2 c = search needs
 
 put-line-requires : tie.Need-put-line-requires
-put-line-requires c κs = let n = c .before .before .before in rw (numbers n) (start n .pre .1)
+put-line-requires c κs =
+    let n = c .before .before .before in
+    omega (arith, ap (λ (zs : List ℤ). length (lineOf outForm zs)) (numbers n), start n .pre .1)
 
 same-length : tie.Need-same-length
 same-length c = search needs

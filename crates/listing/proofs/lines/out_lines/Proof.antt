@@ -9,7 +9,7 @@ use mir.Syntax.{w32}
 use mir.Val.{toZ, ofZ}
 use mir.ValLaws.{toZ-ofZ}
 use borrow.Author.Needs.{needs}
-use Rattle.meaning.specs.Forms.{linesOf, outForm}
+use Rattle.meaning.specs.Forms.{lineOf, linesOf, outForm}
 use Rattle.meaning.specs.Listing.{outNumbers, outsFrom}
 use Rattle.writing.specs.Wrote.{Wrote}
 use Rattle.writing.proofs.Writing.{lines-start, line-fits, line-on, lines-end}
@@ -73,7 +73,8 @@ out-line-requires c κs =
     let l = turn c in
     let f = start l in (
       f .pre .0 .values,
-      rw (numbers c) (line-fits outForm (lines f) (l .loop .k) (l .loop .inv .2) (inside (c .before .before)) (rw (toZ-ofZ w32 _ (f .fits .input)) (f .pre .1))),
+      let r = line-fits outForm (lines f) (l .loop .k) (l .loop .inv .2) (inside (c .before .before)) (rw (toZ-ofZ w32 _ (f .fits .input)) (f .pre .1)) in
+          omega (arith, ap (λ (zs : List ℤ). length (lineOf outForm zs)) (numbers c)),
     )
 
 add-k : tie.Need-add-k Inv-loop μ-loop

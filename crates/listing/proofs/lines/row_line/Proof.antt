@@ -1,8 +1,9 @@
 -- `row_line` meets its contract: the row's numbers in its form. Assumes nothing.
 use mathlib.Core.Path.{_≡_, refl, ap, _∙_}
-use mathlib.Core.List.{[], _∷_}
+use mathlib.Core.List.{List, [], _∷_}
 use native.Mathlib.Omega.{arith}
-use lib.IntN.{pos, _+ℤ_}
+use lib.IntN.{ℤ, pos, _+ℤ_}
+use lib.ListN.{length}
 use mir.Syntax.{w32, w64}
 use mir.Val.{Fits, SFits, toZ, ofZ}
 use mir.ValLaws.{toZ-ofZ, toZ-pos}
@@ -91,7 +92,9 @@ slice-aggregate-put-line-2 : tie.Need-slice-aggregate-put-line-2
 slice-aggregate-put-line-2 c = search needs
 
 put-line-requires : tie.Need-put-line-requires
-put-line-requires c κs = let n = c .before .before .before in rw (numbers n) (start n .pre)
+put-line-requires c κs =
+    let n = c .before .before .before in
+    omega (arith, ap (λ (zs : List ℤ). length (lineOf rowForm zs)) (numbers n), start n .pre)
 
 same-length : tie.Need-same-length
 same-length c = search needs
