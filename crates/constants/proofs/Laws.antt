@@ -1,7 +1,6 @@
 -- What the code finds of a target is what the definition says, and fits signed words. Assumes nothing.
 use mathlib.Core.Path.{_≡_, refl}
 use mathlib.Core.Bool.{true, false}
-use mathlib.Core.List.{List, _∷_}
 use Prim.Native.Nat.{ℕ, zero, suc, _/_, _^_, _≤_, _<_}
 use native.Mathlib.Nat.{not-suc-le-zero, div-le-self}
 use native.Mathlib.Omega.{arith}
@@ -62,6 +61,3 @@ unfolding apart zeros zerosIn
 parts-fit (pos zero) h = record { sign = omega arith; shift = omega arith; odd = omega arith }
 parts-fit (pos (suc n)) h = let l = low-parts (suc n) (omega arith) (omega arith) in record { sign = omega arith; shift = l .0; odd = l .1 }
 parts-fit (negsuc n) h = let l = low-parts (suc n) (omega arith) (omega arith) in record { sign = omega arith; shift = l .0; odd = l .1 }
-
-pub three-words : {a b c x y z : ℤ} {l : List ℤ} → a ≡ x → b ≡ y → c ≡ z → a ∷ b ∷ c ∷ l ≡ x ∷ y ∷ z ∷ l
-three-words e f g = rw (e, f, g)

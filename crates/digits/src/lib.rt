@@ -124,7 +124,7 @@ pub fn prefixes_of(n: u32) -> Prefixes
     Prefixes { count, list }
 }
 
-// The places of the digits -1: a word of less than half of n.
+// The places of the digits -1: a word of at most half of n.
 fn minus_places(n: u32) -> u32
     ensures { λ r. ⌜ r ≡ minusPlaces (canonic n) ⌝ }
 {

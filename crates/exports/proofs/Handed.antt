@@ -1,5 +1,5 @@
 -- What the calls for other languages share: an answer handed back as its code, and numbers that fit. Assumes nothing.
-use mathlib.Core.Path.{_≡_, sym, ap, ap₂, _∙_}
+use mathlib.Core.Path.{_≡_, sym, ap, ap₂, _∙_, subst}
 use mathlib.Core.Bool.{Bool, true, false, cond}
 use mathlib.Core.List.{List, [], _∷_}
 use Prim.Native.Nat.{ℕ, _*_, _≤_}
@@ -45,6 +45,11 @@ handed code told r z w before after h e d = record { answers = toZ-ofZ w64 z h �
 pub coded-done : {A : Type 0} (a r : Answer) (n m : ℕ) (z : ℤ) (w before after : List A) → SFits w64 z → z ≡ coded r m → m ≡ n → Done a w r before after
     → Done (coded a n) w (toZ w64 (ofZ w64 z)) before after
 coded-done a r n m z w before after h e f d = record { answers = coded-is a r n m z h e f (d .answers); writes = d .writes }
+
+-- a constant handed on: what was done for it
+pub for-constant : {R A : Type 0} (t : ℤ) (told : ℤ → R) (written : ℤ → List A) {z : ℤ} {r : R} {before after : List A} → z ≡ t
+    → Done (told z) (written z) r before after → Done (told t) (written t) r before after
+for-constant t told written {r = r} {before = before} {after = after} e d = subst (λ x. Done (told x) (written x) r before after) e d
 
 -- a graph that is ranked or measured has few rows
 abbrev roomTests : ℕ → List ℕ → List Bool

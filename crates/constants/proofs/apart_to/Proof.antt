@@ -12,8 +12,8 @@ use Rattle.meaning.specs.Basics.{over}
 use Rattle.meaning.specs.Constants.{apart}
 use Rattle.meaning.specs.Refusals.{apartTold, apartWritten}
 use Rattle.laws.proofs.Refusals.Stages.{refused-done, accepted-done, short-room, enough-room}
-use Rattle.laws.proofs.Lists.Over.{front-three}
-use Rattle.constants.proofs.Laws.{PartsFit, parts-fit, three-words}
+use Rattle.laws.proofs.Lists.Over.{front-three, three-words}
+use Rattle.constants.proofs.Laws.{PartsFit, parts-fit}
 use Rattle.constants.proofs.apart_to.Statement.{statement}
 use Rattle.constants.proofs.apart_to.Tie as tie
 

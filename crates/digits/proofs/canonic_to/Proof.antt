@@ -6,8 +6,8 @@ use lib.ListN.{length}
 use mir.Syntax.{w32}
 use mir.ValLaws.{toZ-ofZ}
 use Rattle.meaning.specs.Basics.{over}
-use Rattle.laws.proofs.Lists.Over.{front-two}
-use Rattle.digits.proofs.Laws.{held-words, form-refused, form-done, two-words}
+use Rattle.laws.proofs.Lists.Over.{front-two, two-words}
+use Rattle.digits.proofs.FormWords.{held-words, form-refused, form-done}
 use Rattle.digits.proofs.canonic_to.Statement.{statement}
 use Rattle.digits.proofs.canonic_to.Tie as tie
 

@@ -4,13 +4,9 @@ use native.Mathlib.Omega.{arith}
 use borrow.Author.Needs.{needs}
 use Rattle.laws.proofs.Digits.Canonic.{above-less}
 use Rattle.laws.proofs.Digits.Places.{minus-half}
-use Rattle.digits.proofs.Laws.{Adding, Turn, add-step, add-low, add-end}
+use Rattle.digits.proofs.FormWords.{Adding, Turn, add-step, add-low, add-end}
 use Rattle.digits.proofs.minus_places.Statement.{statement}
 use Rattle.digits.proofs.minus_places.Tie as tie
-use Rattle.digits.proofs.minus_places.Reads as reads
-use Rattle.digits.proofs.minus_places.Lts as lts
-use Rattle.digits.proofs.above.Reads as above-reads
-use Rattle.digits.proofs.sign.Reads as sign-reads
 
 abbrev Inv-loop : tie.InvT-loop
 Inv-loop n minus₀ power₀ rest₀ minus power rest = Adding n minus power rest

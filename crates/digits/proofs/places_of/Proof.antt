@@ -3,7 +3,7 @@ use native.Mathlib.Omega.{arith}
 use borrow.Author.Needs.{needs}
 use mir.Syntax.{w32}
 use mir.ValLaws.{toZ-ofZ}
-use Rattle.digits.proofs.Laws.{Found, found-fits, found-above, found-below, words-held}
+use Rattle.digits.proofs.FormWords.{Found, found-fits, found-above, found-below, words-held}
 use Rattle.digits.proofs.places_of.Statement.{statement}
 use Rattle.digits.proofs.places_of.Tie as tie
 

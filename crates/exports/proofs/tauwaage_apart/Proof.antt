@@ -1,10 +1,11 @@
 -- `tauwaage_apart` meets its contract: the answer with 3, and what was written. Assumes nothing.
-use mathlib.Core.Path.{refl}
+use native.Mathlib.Omega.{arith}
 use borrow.Author.Needs.{needs}
-use mir.Syntax.{w32, w64}
+use lib.ListN.{length}
+use mir.Syntax.{w64}
 use mir.Val.{SFits}
-use mir.ValLaws.{toZ-ofZ}
-use Rattle.exports.proofs.Handed.{coded-done}
+use Rattle.meaning.specs.Refusals.{apartTold, apartWritten}
+use Rattle.exports.proofs.Handed.{coded-done, for-constant}
 use Rattle.exports.proofs.tauwaage_apart.Statement.{statement}
 use Rattle.exports.proofs.tauwaage_apart.Tie as tie
 
@@ -23,7 +24,10 @@ same-length c = search needs
 returns : tie.Need-returns
 returns c =
     let d = c .before .before in
-    coded-done _ _ _ _ _ _ _ _ (fit c) (c .of-answer .ensures) refl (rw (toZ-ofZ w32 _ (d .before .before .fits .constant)) at (d .apart-to .ensures))
+    let a = d .before .before .args in
+    let room = length (a .out .now) in
+    let done = for-constant (a .constant) (λ t. apartTold room) (λ t. apartWritten t room) (search needs) (d .apart-to .ensures) in
+    coded-done _ _ _ _ _ _ _ _ (fit c) (c .of-answer .ensures) (omega arith) done
 
 pub tauwaage-apart-spec : {M : Type 1} → statement M
 tauwaage-apart-spec =

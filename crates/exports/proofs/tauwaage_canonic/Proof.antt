@@ -1,10 +1,12 @@
 -- `tauwaage_canonic` meets its contract: the code of the answer, and what it wrote. Assumes nothing.
+use mathlib.Core.Path.{ap, _∙_}
 use borrow.Author.Needs.{needs}
-use mir.Syntax.{w32, w64}
+use lib.ListN.{length}
+use mir.Syntax.{w64}
 use mir.Val.{SFits}
-use mir.ValLaws.{toZ-ofZ}
+use Rattle.meaning.specs.Refusals.{canonicTold, canonicWritten}
 use Rattle.exports.specs.Codes.{formedCode}
-use Rattle.exports.proofs.Handed.{handed}
+use Rattle.exports.proofs.Handed.{handed, for-constant}
 use Rattle.exports.proofs.tauwaage_canonic.Statement.{statement}
 use Rattle.exports.proofs.tauwaage_canonic.Tie as tie
 
@@ -23,7 +25,10 @@ same-length c = search needs
 returns : tie.Need-returns
 returns c =
     let d = c .before .before .before in
-    handed formedCode _ _ _ _ _ _ (fit c) (c .of-formed .ensures) (rw (toZ-ofZ w32 _ (d .before .before .before .fits .constant)) at (d .canonic-to .ensures))
+    let a = d .before .before .before .args in
+    let room = length (a .out .now) in
+    let done = for-constant (a .constant) (λ t. canonicTold t room) (λ t. canonicWritten t room) (search needs) (d .canonic-to .ensures) in
+    handed formedCode _ _ _ _ _ _ (fit c) (c .of-formed .ensures ∙ ap formedCode (search needs)) done
 
 pub tauwaage-canonic-spec : {M : Type 1} → statement M
 tauwaage-canonic-spec =

@@ -10,7 +10,7 @@ use borrow.Author.Tests.{ltb-true}
 use lib.IntN.{ℤ, pos, negsuc, negℤ, natAbs, _+ℤ_, _-ℤ_, _*ℤ_, +ℤ-assoc, +ℤ-comm, *ℤ-comm, negℤ-+ℤ, negℤ-negℤ}
 use lib.ListN.{getD}
 use lib.Signed.{ltZ}
-use Rattle.meaning.specs.Digits.{Digit, minus, none, plus, worth, denoted, isNonzero, nonzeros, lowest, above, digitsIn, canonic, opposite, formOf, isPlus, isMinus, places, plusPlaces, minusPlaces, formWords}
+use Rattle.meaning.specs.Digits.{Digit, minus, none, plus, worth, denoted, isNonzero, nonzeros, Sparse, Ended, lowest, above, digitsIn, canonic, opposite, formOf, isPlus, isMinus, places, plusPlaces, minusPlaces, formWords}
 use Rattle.laws.proofs.Whole.Integers.{sub-mul}
 use Rattle.laws.proofs.Digits.Canonic.{Split, split-none, split-plus, split-minus, split-of, canonic-zero, canonic-step, canonic-is, by-digits}
 use Rattle.laws.proofs.Digits.Count.{few-nonzeros}
@@ -73,26 +73,48 @@ words-denote (d ∷ ds) =
 
 -- ---- the signs changed
 
-pub opposite-plus : (ds : List Digit) → plusPlaces (map opposite ds) ≡ minusPlaces ds
+opposite-places : (f g : Digit → ℕ) → ((d : Digit) → f (opposite d) ≡ g d) → (ds : List Digit) → places f (map opposite ds) ≡ places g ds
 unfolding places
-opposite-plus [] = refl
-opposite-plus (minus ∷ ds) = ap (λ n. 1 + 2 * n) (opposite-plus ds)
-opposite-plus (none ∷ ds) = ap (λ n. 0 + 2 * n) (opposite-plus ds)
-opposite-plus (plus ∷ ds) = ap (λ n. 0 + 2 * n) (opposite-plus ds)
+opposite-places f g same [] = refl
+opposite-places f g same (d ∷ ds) = ap₂ (λ x n. x + 2 * n) (same d) (opposite-places f g same ds)
+
+pub opposite-plus : (ds : List Digit) → plusPlaces (map opposite ds) ≡ minusPlaces ds
+opposite-plus = opposite-places isPlus isMinus same
+  where
+    same : (d : Digit) → isPlus (opposite d) ≡ isMinus d
+    same minus = refl
+    same none = refl
+    same plus = refl
 
 pub opposite-minus : (ds : List Digit) → minusPlaces (map opposite ds) ≡ plusPlaces ds
-unfolding places
-opposite-minus [] = refl
-opposite-minus (minus ∷ ds) = ap (λ n. 0 + 2 * n) (opposite-minus ds)
-opposite-minus (none ∷ ds) = ap (λ n. 0 + 2 * n) (opposite-minus ds)
-opposite-minus (plus ∷ ds) = ap (λ n. 1 + 2 * n) (opposite-minus ds)
+opposite-minus = opposite-places isMinus isPlus same
+  where
+    same : (d : Digit) → isMinus (opposite d) ≡ isPlus d
+    same minus = refl
+    same none = refl
+    same plus = refl
+
+opposite-nonzero : (d : Digit) → isNonzero (opposite d) ≡ isNonzero d
+opposite-nonzero minus = refl
+opposite-nonzero none = refl
+opposite-nonzero plus = refl
 
 pub opposite-nonzeros : (ds : List Digit) → nonzeros (map opposite ds) ≡ nonzeros ds
 unfolding nonzeros
 opposite-nonzeros [] = refl
-opposite-nonzeros (minus ∷ ds) = ap (λ n. 1 + n) (opposite-nonzeros ds)
-opposite-nonzeros (none ∷ ds) = ap (λ n. 0 + n) (opposite-nonzeros ds)
-opposite-nonzeros (plus ∷ ds) = ap (λ n. 1 + n) (opposite-nonzeros ds)
+opposite-nonzeros (d ∷ ds) = ap₂ _+_ (opposite-nonzero d) (opposite-nonzeros ds)
+
+opposite-sparse : (ds : List Digit) → Sparse ds → Sparse (map opposite ds)
+unfolding Sparse
+opposite-sparse [] s = tt
+opposite-sparse (d ∷ []) s = tt
+opposite-sparse (d ∷ e ∷ ds) s = (rw (opposite-nonzero d, opposite-nonzero e) (s .0), opposite-sparse (e ∷ ds) (s .1))
+
+opposite-ended : (ds : List Digit) → Ended ds → Ended (map opposite ds)
+unfolding Ended
+opposite-ended [] s = tt
+opposite-ended (d ∷ []) s = opposite-nonzero d ∙ s
+opposite-ended (d ∷ e ∷ ds) s = opposite-ended (e ∷ ds) s
 
 opposite-denoted : (ds : List Digit) → denoted (map opposite ds) ≡ negℤ (denoted ds)
 opposite-denoted ds =
@@ -132,7 +154,7 @@ plus-is = by-digits (λ n. plusPlaces (canonic n) ≡ n + minusPlaces (canonic n
         places-step isPlus n h ∙ sums (plusPlaces (canonic (above n))) (minusPlaces (canonic (above n))) (split-of n) ih
         ∙ ap (λ m. n + m) (sym (places-step isMinus n h))
 
--- the second word is less than half of n: by one at least where n is odd, and by two where n is even
+-- twice the second word is below n: by one at least where n is odd, and by two where it is even and not 0
 Less : ℕ → ℕ → Type 0
 Less n m = 2 * m + min n (2 - n % 2) ≤ n
 
@@ -168,10 +190,21 @@ unfolding formOf
 form-below (pos n) e = absurd (not-suc-le-zero (ltb-true n 0 e))
 form-below (negsuc n) e = refl
 
+-- it is the constant's, canonic too
 pub form-denotes : (t : ℤ) → denoted (formOf t) ≡ t
 unfolding formOf
 form-denotes (pos n) = canonic-is n .denotes
 form-denotes (negsuc n) = opposite-denoted (canonic (suc n)) ∙ ap negℤ (canonic-is (suc n) .denotes)
+
+pub form-sparse : (t : ℤ) → Sparse (formOf t)
+unfolding formOf
+form-sparse (pos n) = canonic-is n .sparse
+form-sparse (negsuc n) = opposite-sparse (canonic (suc n)) (canonic-is (suc n) .sparse)
+
+pub form-ended : (t : ℤ) → Ended (formOf t)
+unfolding formOf
+form-ended (pos n) = canonic-is n .ended
+form-ended (negsuc n) = opposite-ended (canonic (suc n)) (canonic-is (suc n) .ended)
 
 -- the first less the second is the constant
 pub form-back : (t : ℤ) → pos (plusPlaces (formOf t)) -ℤ pos (minusPlaces (formOf t)) ≡ t

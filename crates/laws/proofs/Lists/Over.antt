@@ -87,6 +87,12 @@ module _ {A : Type 0} where
   front-three d (a ∷ b ∷ []) h = absurd (omega arith)
   front-three d (a ∷ b ∷ c ∷ l) h = refl
 
+  pub two-words : {a b x y : A} {l : List A} → a ≡ x → b ≡ y → a ∷ b ∷ l ≡ x ∷ y ∷ l
+  two-words e f = rw (e, f)
+
+  pub three-words : {a b c x y z : A} {l : List A} → a ≡ x → b ≡ y → c ≡ z → a ∷ b ∷ c ∷ l ≡ x ∷ y ∷ z ∷ l
+  three-words e f g = rw (e, f, g)
+
 -- what a loop over a list writes: the members passed
 module _ {A : Type 0} where
   pub over-taken : (xs : List A) (d : A) (old : List A) (i : ℕ) → i < length xs → i < length old

@@ -2,10 +2,11 @@
 use mathlib.Core.Path.{sym, ap, _∙_}
 use borrow.Author.Needs.{needs}
 use native.Mathlib.Omega.{arith}
+use lib.IntN.{pos}
 use mir.Syntax.{w64}
 use mir.Val.{SFits}
-use mir.ValLaws.{toZ-ofZ, toZ-pos}
-use Rattle.exports.specs.Codes.{formedCode}
+use mir.ValLaws.{toZ-ofZ}
+use Rattle.exports.specs.Codes.{refusalCode, formedCode}
 use Rattle.exports.proofs.codes.of_formed.Statement.{statement}
 use Rattle.exports.proofs.codes.of_formed.Tie as tie
 
@@ -26,11 +27,11 @@ refused-requires c κs = search needs
 
 returns : tie.Need-returns
 unfolding formedCode
-returns c = toZ-pos w64 _ (omega arith) ∙ sym (ap formedCode (c .before .formed .given .1))
+returns c = toZ-ofZ w64 _ (cast-result c) ∙ ap pos (omega arith) ∙ sym (ap formedCode (c .before .formed .given .1))
 
 returns-2 : tie.Need-returns-2
 unfolding formedCode
-returns-2 c = toZ-ofZ w64 _ (fit c) ∙ c .refused .ensures ∙ sym (ap formedCode (c .before .before .formed2 .given .1))
+returns-2 c = toZ-ofZ w64 _ (fit c) ∙ c .refused .ensures ∙ ap refusalCode (search needs) ∙ sym (ap formedCode (c .before .before .formed2 .given .1))
 
 pub of-formed-spec : {M : Type 1} → statement M
 of-formed-spec =
