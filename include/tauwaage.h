@@ -52,7 +52,7 @@ extern "C" {
 #define TAUWAAGE_GENERATE_WORDS 896
 /* the longest job that is not refused, and the room that tauwaage_job asks for, in bytes */
 #define TAUWAAGE_JOB_TEXT_BYTES 256
-#define TAUWAAGE_JOB_BYTES 24899
+#define TAUWAAGE_JOB_BYTES 8769
 
 /* the stack that no call uses up */
 #define TAUWAAGE_STACK_BYTES 98304

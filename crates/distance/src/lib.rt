@@ -12,7 +12,8 @@ ghost use lib.ListN.{length};
 ghost use Rattle.meaning.specs.Basics.{has};
 ghost use Rattle.meaning.specs.Distance.{distance as Distance·distance};
 ghost use Rattle.meaning.specs.Refusals.{distanceTold};
-ghost use Rattle.search.specs.Marks.{longLimit, Odd, Ready, State};
+ghost use Rattle.meaning.specs.Operation.{Odd};
+ghost use Rattle.search.specs.Marks.{longLimit, Ready, State};
 
 // The map of what one operation on the values reaches.
 fn fill(map: &mut [u8], limit: u32, vals: &[u32])

@@ -19,7 +19,8 @@ use Rattle.laws.proofs.Lists.Over.{length-over-at, over-at-part, over-at-none}
 use Rattle.search.specs.declared.ready.Ready.{Ready}
 use Rattle.search.specs.Listed.{listed, Added}
 use Rattle.search.proofs.ReadyLaws.{grown-room}
-use Rattle.search.specs.Marks.{Holds, Odd, State}
+use Rattle.meaning.specs.Operation.{Odd}
+use Rattle.search.specs.Marks.{Holds, State}
 use Rattle.search.proofs.Marks.{include-is, one-map}
 use Rattle.generator.specs.Search.{found}
 use Rattle.generator.specs.declared.first_choice.Found.the-variants.{At, Missing}

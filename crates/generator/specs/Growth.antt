@@ -14,7 +14,8 @@ use Rattle.meaning.specs.Digits.{prefixes}
 use Rattle.meaning.specs.Generator.{prefixRow}
 use Rattle.search.specs.declared.ready.Ready.{Ready}
 use Rattle.search.specs.Listed.{listed, Fit}
-use Rattle.search.specs.Marks.{Odd, State}
+use Rattle.meaning.specs.Operation.{Odd}
+use Rattle.search.specs.Marks.{State}
 
 -- the rows drawn: as many as the set counts values, but for the input's
 abbrev pub drawnRows : Ready → List ℕ → List Row

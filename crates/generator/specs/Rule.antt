@@ -12,7 +12,8 @@ use Rattle.meaning.specs.Distance.{reach?}
 use Rattle.meaning.specs.Generator.{rowFor, ruleB, turns}
 use Rattle.search.specs.declared.ready.Ready.{Ready}
 use Rattle.search.specs.Listed.{listed}
-use Rattle.search.specs.Marks.{marked, longLimit, Odd, State}
+use Rattle.meaning.specs.Operation.{Odd}
+use Rattle.search.specs.Marks.{marked, longLimit, State}
 use Rattle.generator.specs.Growth.{Servable, atMostOne}
 use Rattle.generator.specs.declared.rule.Near.{Near}
 use Rattle.generator.specs.declared.rule.Near.the-variants as near

@@ -9,7 +9,7 @@ ghost use mathlib.Core.List.{[], _∷_};
 ghost use lib.ListN.{length};
 ghost use Rattle.meaning.specs.Digits.{prefixes};
 ghost use Rattle.meaning.specs.Generator.{rowOf, rowFor, ruleC};
-ghost use Rattle.search.specs.Marks.{Odd};
+ghost use Rattle.meaning.specs.Operation.{Odd};
 ghost use Rattle.generator.specs.Growth.{drawnRows, Open, Grown, atMostOne, prefixRows, Servable};
 
 // One row more.

@@ -22,7 +22,7 @@ pub fn answer(s: &[u8], out: &mut [u8]) -> Printed
     let parsed = job::parse(s);
     let asks = parsed.asks;
     match asks {
-        Asks::Malformed(line) => Printed::Bytes(writing::refused(out, Refusal::Job(line))),
+        Asks::Malformed(line) => Printed::Bytes(drawing::refused(out, Refusal::Job(line))),
         Asks::Wants { head, count } => {
             let ts = parsed.targets;
             Printed::Bytes(drawing::draw(out, head, &ts[..count]))

@@ -1,16 +1,14 @@
 // Texts, and lines by their forms, written at a place of a lent buffer that has room for them; each function hands back the place behind its text.
-use meaning::Refusal;
 ghost use mathlib.Core.Path.{_≡_};
 ghost use Prim.Native.Nat.{_+_, _≤_};
 ghost use lib.IntN.{pos};
 ghost use lib.ListN.{length, getD};
 ghost use Rattle.meaning.specs.Forms.{piece as Forms·piece, lineOf};
-ghost use Rattle.meaning.specs.Listing.{refusedLine, headRoom};
 ghost use Rattle.meaning.specs.Text.{unsignedText, textOf};
 ghost use Rattle.writing.specs.Wrote.{Wrote};
 
 // A text.
-pub fn put(out: &mut [u8], at: usize, text: &[u8]) -> usize
+fn put(out: &mut [u8], at: usize, text: &[u8]) -> usize
     requires { ⌜ at + length (now text) ≤ length (now out) ⌝ }
     ensures { λ r. ⌜ Wrote (now (out .entry)) at (now (text .entry)) (now (out .exit)) r ⌝ }
 {
@@ -79,15 +77,4 @@ pub fn put_line(out: &mut [u8], from: usize, form: &[u8], numbers: &[i64]) -> us
         i += 1;
     }
     at
-}
-
-// The line of a refusal, from the front.
-pub fn refused(out: &mut [u8], why: Refusal) -> usize
-    requires { ⌜ headRoom ≤ length (now out) ⌝ }
-    ensures { λ r. ⌜ Wrote (now (out .entry)) 0 (refusedLine why) (now (out .exit)) r ⌝ }
-{
-    let number = why.number();
-    let place = why.place();
-    let numbers = [number as i64, place as i64];
-    put_line(out, 0, b"refused=# place=#\n", &numbers)
 }

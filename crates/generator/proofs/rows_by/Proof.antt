@@ -14,8 +14,8 @@ use Rattle.meaning.specs.Generator.{generated}
 use Rattle.laws.proofs.Refusals.Checked.{Admitted, admitted-of}
 use Rattle.laws.proofs.Constants.Wanted.{wanted-length}
 use Rattle.laws.proofs.Generator.Generated.{few-rows, drawn-accepts}
-use Rattle.constants.specs.Held.{kept}
-use Rattle.constants.proofs.Insertion.{held-list, held-count}
+use Rattle.constants.specs.Held.{kept, wantedHeld}
+use Rattle.constants.proofs.Insertion.{held-list, held-count, held-all}
 use Rattle.generator.specs.Rule.{AllServable, turned, Drawable}
 use Rattle.generator.proofs.Answers.{all-servable, told-rows, its-turns}
 use Rattle.generator.proofs.rows_by.Statement.{statement}
@@ -31,9 +31,12 @@ limited c = c .before .before .before
 abbrev start : tie.After-wanted-of → tie.Start
 start c = limited c .before .before .before
 
--- the wanted set handed to `draw`
+-- the wanted set handed to `draw`: no target is left out
+holds : (c : tie.After-wanted-of) → c .wanted-of .result ≡ wantedHeld (wanted (start c .args .ts .now))
+holds c = held-all _ _ (good (start c) .list .1) (c .wanted-of .ensures)
+
 its-list : (c : tie.After-wanted-of) → kept (c .wanted-of .result) ≡ wanted (start c .args .ts .now)
-its-list c = held-list _ _ (c .wanted-of .ensures)
+its-list c = held-list _ _ (holds c)
 
 its-rows : (c : tie.After-wanted-of) → let a = start c .args in turned (limited c .limit .result) (kept (c .wanted-of .result)) ≡ generated (a .b) (a .ts .now)
 its-rows c = ap (λ (L : ℕ). turned L (kept (c .wanted-of .result))) (limited c .limit .ensures) ∙ its-turns _ _ _ (its-list c)
@@ -42,7 +45,7 @@ limit-requires : tie.Need-limit-requires
 limit-requires c κs = good (c .before .before) .bits .1
 
 wanted-of-requires : tie.Need-wanted-of-requires
-wanted-of-requires c κs = good (c .before .before .before .before .before) .list .1
+wanted-of-requires c κs = search needs
 
 -- the turns may begin, under the limit of b
 ready-for : (c : tie.After-wanted-of) → let a = start c .args in Drawable (limit (a .b)) (a .map .now) (a .out .now) (kept (c .wanted-of .result))
@@ -64,7 +67,7 @@ draw-requires c κs =
     let st = start c in
     let a = st .args in (
       subst⁻¹ (λ (L : ℕ). Drawable L (a .map .now) (a .out .now) (kept (c .wanted-of .result))) (limited c .limit .ensures) (ready-for c),
-      omega (arith, held-count _ _ (c .wanted-of .ensures), wanted-length (a .ts .now), good st .list),
+      omega (arith, held-count _ _ (holds c), wanted-length (a .ts .now), good st .list),
     )
 
 sub-t12 : tie.Need-sub-t12

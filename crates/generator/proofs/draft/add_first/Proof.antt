@@ -3,7 +3,7 @@ use mathlib.Core.Path.{_≡_, sym, ap, _∙_, subst⁻¹}
 use mathlib.Core.Option.{Option, some}
 use Rattle.meaning.specs.declared.Row.{Row}
 use Rattle.meaning.specs.Generator.{rowFor}
-use Rattle.search.specs.Marks.{Odd}
+use Rattle.meaning.specs.Operation.{Odd}
 use Rattle.generator.specs.Growth.{drawnRows, Grown, atMostOne}
 use Rattle.generator.proofs.DraftLaws.{missing-is, found-is, row-missing, row-there, grown-none}
 use borrow.Author.Needs.{needs}

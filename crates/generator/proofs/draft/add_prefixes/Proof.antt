@@ -10,7 +10,7 @@ use Rattle.laws.proofs.Lists.Index.{getD-in}
 use Rattle.digits.specs.declared.Prefixes.{Prefixes}
 use Rattle.digits.specs.Held.{nothing, prefixesHeld}
 use Rattle.digits.proofs.Laws.{held-count, held-at}
-use Rattle.search.specs.Marks.{Odd}
+use Rattle.meaning.specs.Operation.{Odd}
 use Rattle.generator.specs.Growth.{drawnRows, Open, Grown, prefixRows}
 use Rattle.generator.proofs.DraftLaws.{Part, part-start, part-open, part-more, part-end}
 use Rattle.generator.proofs.draft.add_prefixes.Statement.{statement}

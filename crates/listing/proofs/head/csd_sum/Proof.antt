@@ -8,7 +8,8 @@ use lib.ListN.{length, getD, drop}
 use Rattle.meaning.specs.Constants.{wanted}
 use Rattle.meaning.specs.Digits.{cost, csdSum}
 use Rattle.laws.proofs.Constants.Wanted.{wanted-length}
-use Rattle.constants.proofs.Insertion.{held-count, held-value}
+use Rattle.constants.specs.Held.{wantedHeld}
+use Rattle.constants.proofs.Insertion.{held-count, held-value, held-all}
 use Rattle.listing.proofs.Laws.{sum-more, sum-end, wanted-positive}
 use Rattle.listing.proofs.head.csd_sum.Statement.{statement}
 use Rattle.listing.proofs.head.csd_sum.Tie as tie
@@ -19,20 +20,24 @@ Inv-loop ts w sum₀ i₀ sum i = (i ≤ w .count) × (sum ≤ 16 * i) × (csdSu
 abbrev μ-loop : tie.MeasureT-loop
 μ-loop ts w sum₀ i₀ sum i = w .count - i
 
+-- no target is left out
+holds : (c : tie.After-wanted-of Inv-loop μ-loop) → c .wanted-of .result ≡ wantedHeld (wanted (c .before .args .ts .now))
+holds c = held-all _ _ (c .before .pre) (c .wanted-of .ensures)
+
 -- there are at most 16 constants
 few : (c : tie.After-wanted-of Inv-loop μ-loop) → c .wanted-of .result .count ≤ 16
-few c = omega (arith, held-count _ _ (c .wanted-of .ensures), wanted-length (c .before .args .ts .now), c .before .pre)
+few c = omega (arith, held-count _ _ (holds c), wanted-length (c .before .args .ts .now), c .before .pre)
 
 -- the place is one of theirs
 inside : (c : tie.In-loop Inv-loop μ-loop) → c .before .loop .i < length (wanted (c .before .before .before .args .ts .now))
-inside c = omega (arith, held-count _ _ (c .before .before .wanted-of .ensures))
+inside c = omega (arith, held-count _ _ (holds (c .before .before)))
 
 -- what is added is the cost of the constant at that place
 added : (c : tie.After-cost Inv-loop μ-loop) → let l = c .before .before .before in
     c .cost .result ≡ cost (getD (wanted (l .before .before .args .ts .now)) (l .loop .i) 0)
 added c =
     let l = c .before .before .before in
-    c .cost .ensures .0 ∙ ap cost (held-value _ _ (l .before .wanted-of .ensures) (l .loop .i))
+    c .cost .ensures .0 ∙ ap cost (held-value _ _ (holds (l .before)) (l .loop .i))
 
 wanted-of-requires : tie.Need-wanted-of-requires Inv-loop μ-loop
 wanted-of-requires c κs = search needs
@@ -49,7 +54,7 @@ element-copy-out-cost c = omega (arith, few (c .before .before))
 cost-requires : tie.Need-cost-requires Inv-loop μ-loop
 cost-requires c κs =
     let l = c .before .before in
-    rw (held-value _ _ (l .before .wanted-of .ensures) (l .loop .i)) (wanted-positive _ _ (inside (c .before)))
+    rw (held-value _ _ (holds (l .before)) (l .loop .i)) (wanted-positive _ _ (inside (c .before)))
 
 add-sum : tie.Need-add-sum Inv-loop μ-loop
 add-sum c = omega (arith, c .cost .ensures .1, few (c .before .before .before .before))
@@ -70,7 +75,7 @@ loop-again c = (
 returns : tie.Need-returns Inv-loop μ-loop
 returns c =
     let l = c .before in
-    sum-end (wanted (l .before .before .args .ts .now)) (l .loop .i) _ (l .loop .inv .2) (omega (arith, held-count _ _ (l .before .wanted-of .ensures)))
+    sum-end (wanted (l .before .before .args .ts .now)) (l .loop .i) _ (l .loop .inv .2) (omega (arith, held-count _ _ (holds (l .before))))
 
 pub csd-sum-spec : {M : Type 1} → statement M
 csd-sum-spec =

@@ -11,9 +11,9 @@ use borrow.Author.Needs.{needs}
 use Rattle.meaning.specs.Forms.{lineOf, refusedForm}
 use Rattle.meaning.specs.Listing.{refusedLine}
 use Rattle.laws.proofs.Text.Listings.{refused-room}
 use Rattle.writing.proofs.Writing.{same-text}
-use Rattle.writing.proofs.refused.Statement.{statement}
-use Rattle.writing.proofs.refused.Tie as tie
+use Rattle.reply.proofs.drawing.refused.Statement.{statement}
+use Rattle.reply.proofs.drawing.refused.Tie as tie
 
 -- the line that is written
 line : (c : tie.After-place) → lineOf refusedForm (toZ w64 (c .before .number .result) ∷ toZ w64 (c .place .result) ∷ []) ≡ refusedLine (c .before .before .before .args .why)
