@@ -1,6 +1,5 @@
 // The lines above the rows.
 use meaning::Head;
-use writing::put;
 use writing::put_line;
 ghost use mathlib.Core.Path.{_≡_};
 ghost use mathlib.Core.List.{[], _∷_};
@@ -45,14 +44,23 @@ fn number_line(out: &mut [u8], at: usize, form: &[u8], z: i64) -> usize
     put_line(out, at, form, &numbers)
 }
 
+// A line of no number.
+fn plain_line(out: &mut [u8], at: usize, form: &[u8]) -> usize
+    requires { ⌜ at + length (lineOf (now form) []) ≤ length (now out) ⌝ }
+    ensures { λ r. ⌜ Wrote (now (out .entry)) at (lineOf (now (form .entry)) []) (now (out .exit)) r ⌝ }
+{
+    let none = [0i64; 0];
+    put_line(out, at, form, &none)
+}
+
 fn report(out: &mut [u8], at: usize, by_width: bool) -> usize
     requires { ⌜ at + length (reportText «by_width») ≤ length (now out) ⌝ }
     ensures { λ r. ⌜ Wrote (now (out .entry)) at (reportText «by_width») (now (out .exit)) r ⌝ }
 {
     if by_width {
-        return put(out, at, b"report=width\n");
+        return plain_line(out, at, b"report=width\n");
     }
-    put(out, at, b"report=row\n")
+    plain_line(out, at, b"report=row\n")
 }
 
 // All five, of a graph of some adders and a list of some sum.

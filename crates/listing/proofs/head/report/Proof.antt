@@ -1,41 +1,42 @@
 -- `report` meets its contract: the line for either order. Assumes nothing.
 use borrow.Author.Needs.{needs}
+use Rattle.meaning.specs.Forms.{lineOf}
 use Rattle.listing.proofs.head.report.Statement.{statement}
 use Rattle.listing.proofs.head.report.Tie as tie
 
-slice-aggregate-put : tie.Need-slice-aggregate-put
-slice-aggregate-put c = search needs
+slice-aggregate-plain-line : tie.Need-slice-aggregate-plain-line
+slice-aggregate-plain-line c = search needs
 
-put-requires : tie.Need-put-requires
-put-requires c κs = let t = c .before .before in rw (t .if1 .taken) at (t .before .before .pre)
+plain-line-requires : tie.Need-plain-line-requires
+plain-line-requires c κs = let t = c .before .before in unfold lineOf in rw (t .if1 .taken) at (t .before .before .pre)
 
 same-length : tie.Need-same-length
 same-length c = search needs
 
 returns : tie.Need-returns
-returns c = let p = c .before .before in rw (p .before .before .before .if1 .taken) (p .put .ensures)
+returns c = let p = c .before .before in unfold lineOf in rw (p .before .before .before .if1 .taken) (p .plain-line .ensures)
 
-slice-aggregate-put-2 : tie.Need-slice-aggregate-put-2
-slice-aggregate-put-2 c = search needs
+slice-aggregate-plain-line-2 : tie.Need-slice-aggregate-plain-line-2
+slice-aggregate-plain-line-2 c = search needs
 
-put-requires-2 : tie.Need-put-requires-2
-put-requires-2 c κs = let t = c .before .before in rw (t .if1 .left) at (t .before .before .pre)
+plain-line-requires-2 : tie.Need-plain-line-requires-2
+plain-line-requires-2 c κs = let t = c .before .before in unfold lineOf in rw (t .if1 .left) at (t .before .before .pre)
 
 same-length-2 : tie.Need-same-length-2
 same-length-2 c = search needs
 
 returns-2 : tie.Need-returns-2
-returns-2 c = let p = c .before .before in rw (p .before .before .before .if1 .left) (p .put2 .ensures)
+returns-2 c = let p = c .before .before in unfold lineOf in rw (p .before .before .before .if1 .left) (p .plain-line2 .ensures)
 
 pub report-spec : {M : Type 1} → statement M
 report-spec =
     tie.close
     (tie.spec
-    slice-aggregate-put
-    put-requires
+    slice-aggregate-plain-line
+    plain-line-requires
     same-length
     returns
-    slice-aggregate-put-2
-    put-requires-2
+    slice-aggregate-plain-line-2
+    plain-line-requires-2
     same-length-2
     returns-2)
