@@ -13,7 +13,7 @@ same-length : tie.Need-same-length
 same-length c = search needs
 
 returns : tie.Need-returns
-returns c = let r = c .before .before .before in rw (r .before .before .before .if1 .taken) (r .rank-values .ensures)
+returns c = let r = c .before .before .before in rw (r .before .before .before .if1 .taken) (r .rank-values .ensures .0)
 
 count-up-requires : tie.Need-count-up-requires
 count-up-requires c κs = search needs
