@@ -44,7 +44,8 @@ fn draw(map: &mut [u8], limit: u32, out: &mut [u32], w: Wanted) -> Ready
     let mut set = start(map, limit);
     let mut k = 0;
     while k < w.count {
-        set = rule::turn(map, limit, set, out, remaining::left(set, w));
+        let left = remaining::left(set, w);
+        set = rule::turn(map, limit, set, out, left);
         k += 1;
     }
     set

@@ -38,7 +38,7 @@ loop-holds : tie.Need-loop-holds Inv-loop μ-loop
 loop-holds c = let d = c .before .before in (omega arith, turned-start (d .start .ensures .0) (opened d), refl, refl)
 
 left-requires : tie.Need-left-requires Inv-loop μ-loop
-left-requires c κs = c .before .before .before .before .before .before .before .before .before .before .before .pre .1
+left-requires c κs = c .before .before .before .before .before .before .before .before .before .pre .1
 
 -- what is left is servable, and the next turn has room
 next-open : (c : tie.Then1 Inv-loop μ-loop) → let t = c .before .before in let a = t .before .before .before .before .before .before .before .args in
@@ -51,13 +51,14 @@ next-open c =
 
 turn-requires : tie.Need-turn-requires Inv-loop μ-loop
 turn-requires c κs =
-    let n = c .before .before .before in
+    let l = c .before .before in
+    let n = l .before in
     let t = n .before .before in
     let f = t .before .before .before .before .before .before .before in
-    let e = c .left .ensures .list in (
+    let e = l .left .ensures .list in (
       subst⁻¹ (λ (cs : List ℕ). Open (f .args .limit) (t .loop .set) (t .loop .map) (t .loop .out) (length (added (f .args .limit) (drawnRows (t .loop .set) (t .loop .out)) cs))) e (next-open n),
       f .pre .0 .most,
-      c .left .ensures .bound,
+      l .left .ensures .bound,
       subst⁻¹ (AllServable (f .args .limit)) e (λ k i. f .pre .0 .servable k (remaining-in _ _ k i .0)),
     )
 
@@ -70,8 +71,8 @@ loop-less c = search needs
 loop-again : tie.Need-loop-again Inv-loop μ-loop
 loop-again c =
     let u = c .before .before .before .before in
-    let l = u .before in
-    let n = l .before .before .before in
+    let l = u .before .before .before in
+    let n = l .before in
     let t = n .before .before in
     let d = t .before .before .before in
     let f = d .before .before .before .before in

@@ -1,5 +1,6 @@
 -- `agrees` meets its contract: what the operation makes is held to the row's r and value. Assumes nothing.
 use mathlib.Core.Path.{sym, _∙_}
+use native.Mathlib.Omega.{arith}
 use borrow.Author.Needs.{needs}
 use Rattle.graph.proofs.ValidRowLaws.{agrees-invalid, agrees-other, agrees-value}
 use Rattle.graph.proofs.valid_row.agrees.Statement.{statement}
@@ -20,12 +21,12 @@ returns c = agrees-invalid _ _ _ _ _ _ _ _ (sym (c .before .before .operate .ens
 returns-2 : tie.Need-returns-2
 returns-2 c =
     let m = c .before .before .before in
-    agrees-other _ _ _ _ _ _ _ _ _ _ _ (sym (m .before .before .operate .ensures) ∙ m .made .given .1) (c .if1 .taken)
+    agrees-other _ _ _ _ _ _ _ _ _ _ _ (sym (m .before .before .operate .ensures) ∙ m .made .given .1) (λ e. omega (arith, c .if1 .taken, e))
 
 returns-3 : tie.Need-returns-3
 returns-3 c =
     let m = c .before .before .before .before in
-    agrees-value _ _ _ _ _ _ _ _ _ _ _ (sym (m .before .before .operate .ensures) ∙ m .made .given .1) (c .before .if1 .left)
+    agrees-value _ _ _ _ _ _ _ _ _ _ _ (sym (m .before .before .operate .ensures) ∙ m .made .given .1) (omega (arith, c .before .if1 .left))
 
 pub agrees-spec : {M : Type 1} → statement M
 agrees-spec =
