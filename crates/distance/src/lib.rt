@@ -6,14 +6,12 @@ use meaning::Far;
 use search::LONG_MAP;
 use search::SHORT_MAP;
 ghost use mathlib.Core.Path.{_≡_};
-ghost use mathlib.Core.Bool.{false};
 ghost use Prim.Native.Nat.{_≤_};
 ghost use lib.ListN.{length};
-ghost use Rattle.meaning.specs.Basics.{has};
 ghost use Rattle.meaning.specs.Distance.{distance as Distance·distance};
 ghost use Rattle.meaning.specs.Refusals.{distanceTold};
-ghost use Rattle.meaning.specs.Operation.{Odd};
 ghost use Rattle.search.specs.Marks.{longLimit, Ready, State};
+ghost use Rattle.distance.specs.Away.{Away};
 
 // The map of what one operation on the values reaches.
 fn fill(map: &mut [u8], limit: u32, vals: &[u32])
@@ -29,8 +27,7 @@ fn fill(map: &mut [u8], limit: u32, vals: &[u32])
 
 // One operation, two, or more, by a map of zeros.
 fn beyond_by(map: &mut [u8], limit: u32, vals: &[u32], c: u32) -> Far
-    requires { ⌜ State limit (now map) (now vals) 0 × Ready limit (now vals) (length (now vals)) × Odd limit c
-        × (has (now vals) c ≡ false) ⌝ }
+    requires { ⌜ State limit (now map) (now vals) 0 × Away limit (now vals) c ⌝ }
     ensures { λ r. ⌜ r ≡ Distance·distance limit (now (vals .entry)) c ⌝ }
 {
     fill(map, limit, vals);
@@ -45,7 +42,7 @@ fn beyond_by(map: &mut [u8], limit: u32, vals: &[u32], c: u32) -> Far
 
 // The same by a map of its own.
 fn beyond_zero(limit: u32, vals: &[u32], c: u32) -> Far
-    requires { ⌜ (limit ≤ longLimit) × Ready limit (now vals) (length (now vals)) × Odd limit c × (has (now vals) c ≡ false) ⌝ }
+    requires { ⌜ (limit ≤ longLimit) × Away limit (now vals) c ⌝ }
     ensures { λ r. ⌜ r ≡ Distance·distance limit (now (vals .entry)) c ⌝ }
 {
     if search::short_serves(limit) {

@@ -6,15 +6,17 @@ use mathlib.Core.Option.{some, none}
 use Prim.Native.Nat.{ℕ, _*_, _≤_}
 use lib.ListN.{length}
 use Rattle.meaning.specs.declared.Row.{Row}
-use Rattle.meaning.specs.Limits.{mostRows}
+use Rattle.meaning.specs.Limits.{mostTargets, mostRows}
 use Rattle.meaning.specs.Graph.{rowLength}
 use Rattle.meaning.specs.Distance.{reach?}
-use Rattle.meaning.specs.Generator.{rowFor, ruleB, turns}
+use Rattle.meaning.specs.Generator.{rowFor, ruleB, added, turns}
+use Rattle.constants.specs.declared.wanted.Wanted.{Wanted}
+use Rattle.constants.specs.Held.{kept}
 use Rattle.search.specs.declared.ready.Ready.{Ready}
 use Rattle.search.specs.Listed.{listed}
 use Rattle.meaning.specs.Operation.{Odd}
 use Rattle.search.specs.Marks.{marked, longLimit, State}
-use Rattle.generator.specs.Growth.{Servable, atMostOne}
+use Rattle.generator.specs.Growth.{Servable, atMostOne, drawnRows, Open}
 use Rattle.generator.specs.declared.rule.Near.{Near}
 use Rattle.generator.specs.declared.rule.Near.the-variants as near
 use Rattle.generator.specs.declared.rule.Chosen.{Chosen}
@@ -50,6 +52,13 @@ pub record Pickable (L : ℕ) (map : List ℕ) (set : Ready) (cs : List ℕ) : T
   pub limit : L ≤ longLimit
   pub servable : AllServable L cs
   pub far : NoneNear L (listed set) cs
+
+-- a turn may begin: there is room for its rows, and its constants can be served
+pub record Turning (L : ℕ) (map out : List ℕ) (set : Ready) (w : Wanted) : Type 0 where
+  pub room : Open L set map out (length (added L (drawnRows set out) (kept w)))
+  pub limit : L ≤ longLimit
+  pub few : w .count ≤ mostTargets
+  pub servable : AllServable L (kept w)
 
 -- ---- all turns
 

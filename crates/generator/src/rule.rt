@@ -4,15 +4,13 @@ use search::ready::Ready;
 use search::serving::Trials;
 ghost use mathlib.Core.Path.{_≡_};
 ghost use Prim.Native.Nat.{_≤_};
-ghost use lib.ListN.{length};
 ghost use Rattle.constants.specs.Held.{kept};
 ghost use Rattle.meaning.specs.Limits.{mostTargets};
 ghost use Rattle.meaning.specs.Graph.{ready};
 ghost use Rattle.meaning.specs.Generator.{added};
 ghost use Rattle.search.specs.Listed.{listed};
-ghost use Rattle.search.specs.Marks.{longLimit};
-ghost use Rattle.generator.specs.Growth.{drawnRows, Open, Grown};
-ghost use Rattle.generator.specs.Rule.{AllServable, firstMarked, Pickable, Picked};
+ghost use Rattle.generator.specs.Growth.{drawnRows, Grown};
+ghost use Rattle.generator.specs.Rule.{firstMarked, Pickable, Picked, Turning};
 
 // The smallest constant that one operation reaches.
 pub enum Near {
@@ -64,8 +62,7 @@ fn pick(map: &[u8], limit: u32, set: Ready, w: Wanted) -> Chosen
 
 // One turn, for the constants that remain.
 pub fn turn(map: &mut [u8], limit: u32, set: Ready, out: &mut [u32], w: Wanted) -> Ready
-    requires { ⌜ Open limit set (now map) (now out) (length (added limit (drawnRows set (now out)) (kept w))) × (limit ≤ longLimit) × (w .count ≤ mostTargets)
-        × AllServable limit (kept w) ⌝ }
+    requires { ⌜ Turning limit (now map) (now out) set w ⌝ }
     ensures { λ r. ⌜ Grown limit set (added limit (drawnRows set (now (out .entry))) (kept w)) r (now (map .exit)) (now (out .entry)) (now (out .exit)) ⌝ }
 {
     if w.count == 0 {

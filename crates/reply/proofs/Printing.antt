@@ -9,8 +9,7 @@ use lib.Seq.{sets-eq}
 use Rattle.meaning.specs.declared.Printed.the-variants as out
 use Rattle.meaning.specs.declared.Refusal.the-variants as no
 use Rattle.meaning.specs.Basics.{over}
-use Rattle.meaning.specs.Job.{Asked, Job, asks, malformed, jobOf}
-use Rattle.meaning.specs.Listing.{answerOf, replyTo, refusedLine, jobText, printedTold, textWritten, textRoom}
+use Rattle.meaning.specs.Listing.{jobText, printedTold, textWritten, textRoom}
 use Rattle.meaning.specs.Refusals.{Done}
 use Rattle.laws.proofs.Refusals.Stages.{over-none}
 use Rattle.writing.specs.Wrote.{Wrote}
@@ -33,11 +32,3 @@ module _ (s : List ℕ) where
     where
       zero-front : (j : ℕ) → 0 + j ≡ j
       zero-front j = omega arith
-
-  pub malformed-text : (line : ℕ) → jobOf s ≡ malformed line → jobText s ≡ refusedLine (no.Job line)
-  unfolding jobText
-  malformed-text line e = ap answerOf e
-
-  pub asked-text : (j : Asked) → jobOf s ≡ asks j → jobText s ≡ replyTo j
-  unfolding jobText
-  asked-text j e = ap answerOf e

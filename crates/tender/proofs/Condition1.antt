@@ -26,11 +26,12 @@ use Rattle.meaning.specs.Distance.{distance, reach?, serves?, candidates}
 use Rattle.meaning.specs.Operation.{Odd}
 use Rattle.meaning.specs.Graph.{rowLength, rowTests, rows, values, Fits, fits?, served?}
 use Rattle.meaning.specs.Generator.{generated}
-use Rattle.meaning.specs.Job.{Asked, Job, asks, malformed, jobOf, jobOrder, natural}
+use Rattle.meaning.specs.Job.{Asked, Job, asks, jobOf, jobOrder, natural}
 use Rattle.meaning.specs.Widths.{rowWidth, InOrder}
-use Rattle.meaning.specs.Listing.{rowOrder, answerOf, orRefused, replyTo, refusedLine, listing, jobText, printedTold, textWritten, textRoom}
+use Rattle.meaning.specs.Listing.{rowOrder, orRefused, replyTo, listing, jobText, printedTold, textWritten, textRoom}
 use Rattle.meaning.specs.Refusals.{need, needEach, number, Done, given, drawnAs, farAs, firstOf, admitOrder, checkOrder, sizedOrder, productsOrder, widthsOrder, rankingOrder, generateOrder, distanceOrder, oddParts, buffer, rowCount, validRows, allServed, fewRows, inputWidth, readyValues, target, admitted, checked, multiplied, productsWritten, measured, widthsWritten, ranked, rankingWritten, drawn, drawnTold, rowsWritten, distanceTold}
 use Rattle.laws.proofs.Lists.Tests.{All, all-of, of-all, false-of, T-of, both-of, of-both, either-of, of-left, of-right, eq→eqb}
+use Rattle.laws.proofs.Text.Jobs.{malformed-text, asked-text}
 use Rattle.laws.proofs.Text.Listings.{order-permutes, ranking-any}
 use Rattle.laws.proofs.Widths.Ranking.{ranking-ordered}
 use Rattle.laws.proofs.Text.ReadBack.{read-back}
@@ -224,19 +225,15 @@ quiet (Refused y) why ws before now e f = f ∙ over-none before
 -- ---- a job's text
 
 module _ (s : List ℕ) where
-  malformed-text : (p : ℕ) → jobOf s ≡ malformed p → jobText s ≡ refusedLine (no.Job p)
-  unfolding jobText
-  malformed-text p e = ap answerOf e
-
-  asked-text : (j : Asked) (a : Answer) → jobOf s ≡ asks j → firstOf (jobOrder j) ≡ a → jobText s ≡ orRefused a (listing j)
-  unfolding jobText replyTo
-  asked-text j a e f = ap answerOf e ∙ ap (λ (x : Answer). orRefused x (listing j)) f
+  told-text : (j : Asked) (a : Answer) → jobOf s ≡ asks j → firstOf (jobOrder j) ≡ a → jobText s ≡ orRefused a (listing j)
+  unfolding replyTo
+  told-text j a e f = asked-text s j e ∙ ap (λ (x : Answer). orRefused x (listing j)) f
 
   listed-text : (j : Asked) → jobOf s ≡ asks j → ((why : Refusal) → ¬ (RefusedBy (jobTable j) why)) → jobText s ≡ listing j
   listed-text j e n = go (firstOf (jobOrder j)) refl
     where
       go : (a : Answer) → firstOf (jobOrder j) ≡ a → jobText s ≡ listing j
-      go Accepted f = asked-text j Accepted e f
+      go Accepted f = told-text j Accepted e f
       go (Refused why) f = absurd (n why (exactly (jobOrder j) (jobTable j) (job-told j) why .0 f))
 
 -- the call's buffer
@@ -363,7 +360,7 @@ condition1 =
       generate = draws;
       distance = distances;
       job-malformed = malformed-text;
-      job-refused = λ s j why e r. asked-text s j (Refused why) e (exactly (jobOrder j) (jobTable j) (job-told j) why .1 r);
+      job-refused = λ s j why e r. told-text s j (Refused why) e (exactly (jobOrder j) (jobTable j) (job-told j) why .1 r);
       job-listed = listed-text;
       print = printed-told;
       numbers-back = λ z front rest h e. read-back z front rest (fits z h) e;

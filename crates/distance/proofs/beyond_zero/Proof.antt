@@ -20,7 +20,7 @@ beyond-by-requires c κs =
     let st = c .before .before .before .before in
     let a = st .args in
     let short = leb→le (a .limit) shortLimit (T-of (sym (c .before .before .short-serves .ensures) ∙ c .before .if1 .taken)) in
-    (start-of (a .limit) shortLimit 4096 (a .vals .now) short (omega arith) (omega arith), st .pre .1, st .pre .2, st .pre .3)
+    (start-of (a .limit) shortLimit 4096 (a .vals .now) short (omega arith) (omega arith), st .pre .1)
 
 returns : tie.Need-returns
 returns c = search needs
@@ -32,7 +32,7 @@ beyond-by-requires-2 : tie.Need-beyond-by-requires-2
 beyond-by-requires-2 c κs =
     let st = c .before .before .before .before in
     let a = st .args in
-    (start-of (a .limit) longLimit 65536 (a .vals .now) (st .pre .0) (omega arith) (omega arith), st .pre .1, st .pre .2, st .pre .3)
+    (start-of (a .limit) longLimit 65536 (a .vals .now) (st .pre .0) (omega arith) (omega arith), st .pre .1)
 
 returns-2 : tie.Need-returns-2
 returns-2 c = search needs

@@ -73,9 +73,11 @@ beyond-zero-requires c κs =
     let m : 2 ^ a .b ≤ 2 ^ limit (a .b) = pow-mono {i = a .b} {j = limit (a .b)} (omega arith) in
     rw (c .limit .ensures) (
       omega (arith, q .bits),
-      ready (a .b) (a .vals .now) (a .c) q,
-      (q .target .0, omega (arith, q .target .1)),
-      found _ (a .vals .now) (a .c) (c .before .before .has .ensures) ∙ c .before .if1 .left,
+      record {
+        ready = ready (a .b) (a .vals .now) (a .c) q;
+        odd = (q .target .0, omega (arith, q .target .1));
+        absent = found _ (a .vals .now) (a .c) (c .before .before .has .ensures) ∙ c .before .if1 .left;
+      },
     )
 
 returns-3 : tie.Need-returns-3

@@ -55,12 +55,15 @@ turn-requires c κs =
     let n = l .before in
     let t = n .before .before in
     let f = t .before .before .before .before .before .before .before in
-    let e = l .left .ensures .list in (
-      subst⁻¹ (λ (cs : List ℕ). Open (f .args .limit) (t .loop .set) (t .loop .map) (t .loop .out) (length (added (f .args .limit) (drawnRows (t .loop .set) (t .loop .out)) cs))) e (next-open n),
-      f .pre .0 .most,
-      l .left .ensures .bound,
-      subst⁻¹ (AllServable (f .args .limit)) e (λ k i. f .pre .0 .servable k (remaining-in _ _ k i .0)),
-    )
+    let e = l .left .ensures .list in
+    record {
+      room =
+          subst⁻¹ (λ (cs : List ℕ). Open (f .args .limit) (t .loop .set) (t .loop .map) (t .loop .out) (length (added (f .args .limit) (drawnRows (t .loop .set) (t .loop .out)) cs))) e
+          (next-open n);
+      limit = f .pre .0 .most;
+      few = l .left .ensures .bound;
+      servable = subst⁻¹ (AllServable (f .args .limit)) e (λ k i. f .pre .0 .servable k (remaining-in _ _ k i .0));
+    }
 
 add-k : tie.Need-add-k Inv-loop μ-loop
 add-k c = search needs

@@ -227,10 +227,10 @@ split-zero (split-none p) h = omega arith
 split-zero (split-plus p w) h = omega arith
 split-zero (split-minus p w) h = omega arith
 
-split-more : {n t : ℕ} {d : Digit} → Split n (suc t) d → 0 < n
-split-more (split-none p) = omega arith
-split-more (split-plus p w) = omega arith
-split-more (split-minus p w) = omega arith
+pub split-more : {n a : ℕ} {d : Digit} → Split n a d → 0 < a → 0 < n
+split-more (split-none p) h = omega arith
+split-more (split-plus p w) h = omega arith
+split-more (split-minus p w) h = omega arith
 
 pub canonic-only : (n : ℕ) (ds : List Digit) → Canonic n ds → ds ≡ canonic n
 unfolding denoted
@@ -247,4 +247,4 @@ canonic-only n (d ∷ ds) c = go (split-from d (denoted ds) n (c .denotes)) (λ 
       where
         positive : (t : ℕ) → Split n t d → (t ≡ 0 → isNonzero d ≡ 1) → 0 < n
         positive zero s top = split-zero s (top refl)
-        positive (suc t) s top = split-more s
+        positive (suc t) s top = split-more s (omega arith)

@@ -13,7 +13,7 @@ use Rattle.meaning.specs.Basics.{zeros}
 use Rattle.meaning.specs.Digits.{Digit, minus, none, plus, isNonzero, nonzeros, above, canonic, prefixesFrom, prefixes}
 use Rattle.laws.proofs.Whole.Zeros.{zeros-unique, zeros-whole, zeros-left}
 use Rattle.laws.proofs.Digits.Count.{nonzeros-split, nonzeros-odd}
-use Rattle.laws.proofs.Digits.Canonic.{Split, split-none, split-plus, split-minus, split-of, split-positive, canonic-zero, canonic-step, canonic-split, by-digits}
+use Rattle.laws.proofs.Digits.Canonic.{Split, split-none, split-plus, split-minus, split-of, split-positive, canonic-zero, canonic-step, canonic-split, by-digits, split-more}
 
 -- ---- the value of the last prefix, and the gap below it, after some digits from the top
 
@@ -76,11 +76,6 @@ gap-snoc g (minus ∷ ds) d = gap-snoc 1 ds d
 
 abbrev pub tops : ℕ → List Digit
 tops n = drop 1 (reverse (canonic n))
-
-split-more : {n a : ℕ} {d : Digit} → Split n a d → 0 < a → 0 < n
-split-more (split-none p) h = omega arith
-split-more (split-plus p w) h = omega arith
-split-more (split-minus p w) h = omega arith
 
 pub tops-step : {n a : ℕ} {d : Digit} → Split n a d → 0 < a → tops n ≡ tops a ++ (d ∷ [])
 tops-step {n} {a} {d} s h =

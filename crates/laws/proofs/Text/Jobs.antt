@@ -1,6 +1,8 @@
--- The order of a job that is not malformed, as code meets it: the generator's refusals, then the input width. Assumes nothing.
+-- What is printed for a job, by what its text asks for; and the order of a job that is not malformed, as code meets it: the generator's refusals, then
+-- the input width. Assumes nothing.
 use mathlib.Core.Path.{_≡_, refl, sym, ap, _∙_}
 use mathlib.Core.List.{List, [], _∷_}
+use Prim.Native.Nat.{ℕ}
 use lib.Dec.{leb, le→leb}
 use lib.ListN.{length}
 use Rattle.meaning.specs.declared.Answer.{Answer}
@@ -8,10 +10,24 @@ use Rattle.meaning.specs.declared.Answer.the-variants.{Accepted, Refused}
 use Rattle.meaning.specs.declared.Refusal.{Refusal}
 use Rattle.meaning.specs.declared.Refusal.the-variants as no
 use Rattle.meaning.specs.Limits.{mostRows}
-use Rattle.meaning.specs.Job.{Asked, bitsOf, inputOf, rowsOf, jobOrder}
+use Rattle.meaning.specs.Job.{Asked, asks, malformed, jobOf, bitsOf, inputOf, rowsOf, jobOrder}
+use Rattle.meaning.specs.Listing.{answerOf, refusedLine, replyTo, jobText}
 use Rattle.meaning.specs.Refusals.{admitOrder, admitted, fewRows, inputWidth, firstOf}
 use Rattle.laws.proofs.Generator.Generated.{few-rows}
 use Rattle.laws.proofs.Refusals.Stages.{stops-at, passes-on, of-need}
+
+-- ---- what is printed
+
+module _ (s : List ℕ) where
+  pub malformed-text : (line : ℕ) → jobOf s ≡ malformed line → jobText s ≡ refusedLine (no.Job line)
+  unfolding jobText
+  malformed-text line e = ap answerOf e
+
+  pub asked-text : (j : Asked) → jobOf s ≡ asks j → jobText s ≡ replyTo j
+  unfolding jobText
+  asked-text j e = ap answerOf e
+
+-- ---- the order
 
 module _ (j : Asked) where
   abbrev late : List Answer

@@ -12,7 +12,8 @@ use Rattle.job.specs.declared.Parsed.{Parsed}
 use Rattle.job.specs.Held.{noTargets, parsedOf}
 use Rattle.job.proofs.Laws.{most-targets, kept-targets, targets-fit, wants-job, malformed-job}
 use Rattle.reply.specs.Drawing.{Narrow}
-use Rattle.reply.proofs.Printing.{print-short, print-text, malformed-text, asked-text}
+use Rattle.laws.proofs.Text.Jobs.{malformed-text, asked-text}
+use Rattle.reply.proofs.Printing.{print-short, print-text}
 use Rattle.reply.proofs.answer.Statement.{statement}
 use Rattle.reply.proofs.answer.Tie as tie
 

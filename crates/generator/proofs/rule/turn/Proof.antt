@@ -34,7 +34,7 @@ start-a c = c .before .before .before .before .before .before .before
 nearest-is : (c : tie.After-c) → let f = start-a c in Nearest (f .args .limit) (drawn f) (kept (f .args .t5)) (c .c .given .0 .0)
 nearest-is c =
     let f = start-a c in
-    near-at _ _ _ _ (f .pre .0 .state) _ (f .pre .0 .same) _ (f .pre .3) _ (sym (c .before .before .nearest .ensures) ∙ c .c .given .1)
+    near-at _ _ _ _ (f .pre .room .state) _ (f .pre .room .same) _ (f .pre .servable) _ (sym (c .before .before .nearest .ensures) ∙ c .c .given .1)
 
 added-by-a : (c : tie.After-c) → let f = start-a c in
     added (f .args .limit) (drawn f) (kept (f .args .t5)) ≡ atMostOne (rowFor (f .args .limit) (drawn f) (c .c .given .0 .0))
@@ -49,7 +49,7 @@ none-near : (c : tie.After-enum-told) → let f = start-b c in
     (ruleA (f .args .limit) (drawn f) (kept (f .args .t5)) ≡ none) × NoneNear (f .args .limit) (listed (f .args .set)) (kept (f .args .t5))
 none-near c =
     let f = start-b c in
-    near-nothing _ _ _ _ (f .pre .0 .state) _ (f .pre .0 .same) _ (f .pre .3) (sym (c .before .before .nearest .ensures) ∙ c .enum-told .given .1)
+    near-nothing _ _ _ _ (f .pre .room .state) _ (f .pre .room .same) _ (f .pre .servable) (sym (c .before .before .nearest .ensures) ∙ c .enum-told .given .1)
 
 -- where step B was asked
 abbrev asked : tie.After-c2 → tie.After-enum-told
@@ -58,7 +58,7 @@ asked c = c .before .before .before .before
 picked-is : (c : tie.After-c2) → let f = start-b (asked c) in Serves (f .args .limit) (drawn f) (kept (f .args .t5)) (c .c2 .given .0 .0) (c .c2 .given .0 .1 .0)
 picked-is c =
     let f = start-b (asked c) in
-    subst (λ (r : Chosen). Picked (f .args .limit) (drawn f) (kept (f .args .t5)) r) (c .c2 .given .1) (c .before .before .pick .ensures (drawn f) (sym (f .pre .0 .same)))
+    subst (λ (r : Chosen). Picked (f .args .limit) (drawn f) (kept (f .args .t5)) r) (c .c2 .given .1) (c .before .before .pick .ensures (drawn f) (sym (f .pre .room .same)))
 
 -- the row of s, and that of the constant after it
 abbrev first-row : tie.After-c2 → List Row
@@ -78,7 +78,7 @@ with-s : (c : tie.After-add-first2) → let d = c .before .before .before .befor
     drawnRows (c .add-first2 .result) (c .add-first2 .last .1 .1 .1 .0) ≡ drawn (start-b (asked d)) ++ first-row d
 with-s c =
     let d = c .before .before .before .before in
-    drawn-more _ (omega (arith, two d, picked-is d .first)) (start-b (asked d) .pre .0) (c .add-first2 .ensures)
+    drawn-more _ (omega (arith, two d, picked-is d .first)) (start-b (asked d) .pre .room) (c .add-first2 .ensures)
 
 -- ---- step C
 
@@ -89,8 +89,8 @@ added-by-c c =
     let f = start-b n in
     let a = f .args in
     let some = n .before .before .before .before .if1 .left in
-    added-c _ _ _ (kept-inside (a .t5) 0 (places f) (f .pre .2) (omega arith)) (none-near n .0)
-    (subst (λ (r : Chosen). Picked (a .limit) (drawn f) (kept (a .t5)) r) (c .enum-told2 .given .1) (c .before .before .pick .ensures (drawn f) (sym (f .pre .0 .same))))
+    added-c _ _ _ (kept-inside (a .t5) 0 (places f) (f .pre .few) (omega arith)) (none-near n .0)
+    (subst (λ (r : Chosen). Picked (a .limit) (drawn f) (kept (a .t5)) r) (c .enum-told2 .given .1) (c .before .before .pick .ensures (drawn f) (sym (f .pre .room .same))))
     ∙ ap (λ (k : ℕ). ruleC (drawn f) (prefixes k)) (kept-at (a .t5) 0 (omega arith))
 
 -- ---- the needs
@@ -100,12 +100,12 @@ returns c =
     let f = c .before .before .before in
     let a = f .args in
     subst⁻¹ (λ (xs : List Row). Grown (a .limit) (a .set) xs (a .set) (a .map .now) (a .out .now) (a .out .now))
-    (ap (added (a .limit) (drawn f)) (kept-nothing (a .t5) (c .if1 .taken)) ∙ added-none (a .limit) (drawn f)) (grown-none _ (f .pre .0))
+    (ap (added (a .limit) (drawn f)) (kept-nothing (a .t5) (c .if1 .taken)) ∙ added-none (a .limit) (drawn f)) (grown-none _ (f .pre .room))
 
 nearest-requires : tie.Need-nearest-requires
 nearest-requires c κs =
     let f = c .before .before .before .before in
-    f .pre .2
+    f .pre .few
 
 enum-known-c : tie.Need-enum-known-c
 enum-known-c c = search needs
@@ -114,7 +114,7 @@ add-first-requires : tie.Need-add-first-requires
 add-first-requires c κs =
     let d = c .before .before .before in
     let f = d .before .before .before .before .before .before .before in
-    (open-less _ 1 (omega (arith, ap length (added-by-a d), nearest-is d .one)) (f .pre .0), f .pre .3 _ (nearest-is d .is-in) .odd)
+    (open-less _ 1 (omega (arith, ap length (added-by-a d), nearest-is d .one)) (f .pre .room), f .pre .servable _ (nearest-is d .is-in) .odd)
 
 same-length : tie.Need-same-length
 same-length c = search needs
@@ -137,7 +137,7 @@ pick-requires : tie.Need-pick-requires
 pick-requires c κs =
     let d = c .before in
     let f = d .before .before .before .before .before .before .before in
-    (record { state = f .pre .0 .state; limit = f .pre .1; servable = f .pre .3; far = none-near d .1 }, f .pre .2)
+    (record { state = f .pre .room .state; limit = f .pre .limit; servable = f .pre .servable; far = none-near d .1 }, f .pre .few)
 
 enum-known-c-2 : tie.Need-enum-known-c-2
 enum-known-c-2 c = search needs
@@ -146,14 +146,14 @@ add-first-requires-2 : tie.Need-add-first-requires-2
 add-first-requires-2 c κs =
     let d = c .before .before .before in
     let f = d .before .before .before .before .before .before .before .before .before .before .before in
-    (open-less _ 1 (omega (arith, two d)) (f .pre .0), picked-is d .odd)
+    (open-less _ 1 (omega (arith, two d)) (f .pre .room), picked-is d .odd)
 
 add-first-requires-3 : tie.Need-add-first-requires-3
 add-first-requires-3 c κs =
     let e = c .before .before .before .before .before .before in
     let d = e .before .before .before .before in
     let f = d .before .before .before .before .before .before .before .before .before .before .before in
-    (open-on _ 1 (omega (arith, two d, picked-is d .first)) (f .pre .0) (e .add-first2 .ensures), f .pre .3 _ (picked-is d .is-in) .odd)
+    (open-on _ 1 (omega (arith, two d, picked-is d .first)) (f .pre .room) (e .add-first2 .ensures), f .pre .servable _ (picked-is d .is-in) .odd)
 
 same-length-3 : tie.Need-same-length-3
 same-length-3 c = search needs
@@ -170,7 +170,7 @@ returns-3 c =
     let a = f .args in
     subst⁻¹ (λ (xs : List Row). Grown (a .limit) (a .set) xs (g .add-first3 .result) (g .add-first3 .last .0) (a .out .now) (g .add-first3 .last .1 .1 .1 .0))
     (added-by-b d)
-    (grown-then _ (f .pre .0) (e .add-first2 .ensures)
+    (grown-then _ (f .pre .room) (e .add-first2 .ensures)
     (subst (λ (ys : List Row). Grown (a .limit) (e .add-first2 .result) (atMostOne (rowFor (a .limit) ys (d .c2 .given .0 .0))) (g .add-first3 .result) (g .add-first3 .last .0) (e .add-first2 .last .1 .1 .1 .0) (g .add-first3 .last .1 .1 .1 .0))
     (with-s e) (g .add-first3 .ensures)))
 
@@ -186,8 +186,8 @@ add-prefixes-requires c κs =
     let f = d .before .before .before .before .before .before .before .before .before .before .before in
     let a = f .args in
     let some = d .before .before .before .before .before .before .before .before .if1 .left in (
-      subst (λ (xs : List Row). Open (a .limit) (a .set) (a .map .now) (a .out .now) (length xs)) (added-by-c d) (f .pre .0),
-      f .pre .3 _ (kept-in (a .t5) 0 (places f) (f .pre .2) (omega arith)),
+      subst (λ (xs : List Row). Open (a .limit) (a .set) (a .map .now) (a .out .now) (length xs)) (added-by-c d) (f .pre .room),
+      f .pre .servable _ (kept-in (a .t5) 0 (places f) (f .pre .few) (omega arith)),
     )
 
 same-length-5 : tie.Need-same-length-5

@@ -1,0 +1,2 @@
+-- What the distance call works with.
+pub mod Away
