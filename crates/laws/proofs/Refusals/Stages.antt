@@ -1,5 +1,5 @@
 -- The stages of a call: it accepts exactly if each stage does, and refuses exactly by the first stage that refuses; what a stage of one condition
--- says. Assumes nothing.
+-- says; and stages followed by a lent buffer's. Assumes nothing.
 use mathlib.Core.Path.{_≡_, refl, sym, ap, _∙_}
 use mathlib.Core.Bool.{Bool, true, false, cond}
 use mathlib.Core.List.{List, [], _∷_, _++_}
@@ -7,6 +7,7 @@ use Prim.Native.Nat.{ℕ, _≤_, _<_}
 use native.Mathlib.Omega.{arith}
 use borrow.Author.Tests.{le-leb, lt-leb}
 use lib.Dec.{T}
+use lib.ListN.{length}
 use Rattle.meaning.specs.declared.Answer.{Answer}
 use Rattle.meaning.specs.declared.Answer.the-variants.{Accepted, Refused}
 use Rattle.meaning.specs.declared.Refusal.{Refusal}
@@ -139,3 +140,21 @@ short-room needed room h = rw (lt-leb needed room h)
 
 pub enough-room : (needed room : ℕ) → needed ≤ room → buffer needed room ≡ Accepted
 enough-room needed room h = rw (le-leb needed room h)
+
+-- ---- stages, then a lent buffer: what a call that writes has done where a stage refuses, where the buffer is too short, and where all is well
+
+module _ {A : Type 0} (stages : List Answer) (needed : ℕ) (ws old : List A) (r : Answer) (e : r ≡ firstOf stages) where
+  abbrev answer : Answer
+  answer = firstOf (stages ++ (buffer needed (length old) ∷ []))
+
+  pub stage-refused : (why : Refusal) → r ≡ Refused why → Done answer (given answer ws) r old old
+  stage-refused why f = refused-done answer r why ws old (stops-at stages (buffer needed (length old) ∷ []) r why e f) f
+
+  past : r ≡ Accepted → answer ≡ firstOf (buffer needed (length old) ∷ [])
+  past f = passes-on stages (buffer needed (length old) ∷ []) r e f
+
+  pub buffer-refused : r ≡ Accepted → length old < needed → Done answer (given answer ws) (Refused no.Buffer) old old
+  buffer-refused f h = refused-done answer (Refused no.Buffer) no.Buffer ws old (sym (past f ∙ ap (λ a. firstOf (a ∷ [])) (short-room needed (length old) h))) refl
+
+  pub all-written : (after : List A) → r ≡ Accepted → needed ≤ length old → after ≡ over ws old → Done answer (given answer ws) Accepted old after
+  all-written after f h w = accepted-done answer ws old after (past f ∙ ap (λ a. firstOf (a ∷ [])) (enough-room needed (length old) h)) w

@@ -1,44 +1,35 @@
 -- `measure` meets its contract: as check, then 9, then 4; the rows' widths and then the outputs' over the front. Assumes nothing.
-use mathlib.Core.Path.{_≡_, refl, sym, ap, _∙_}
-use mathlib.Core.Bool.{Bool}
-use mathlib.Core.List.{List, [], _∷_, map}
-use Prim.Native.Nat.{ℕ, _+_}
+use mathlib.Core.Path.{_≡_, sym, ap, _∙_}
+use mathlib.Core.List.{map}
+use Prim.Native.Nat.{_+_}
 use native.Mathlib.Omega.{arith}
 use borrow.Author.Needs.{needs}
-use borrow.Author.Tests.{le-leb, lt-leb}
-use lib.Dec.{leb}
 use lib.ListN.{length, length-map}
-use Rattle.meaning.specs.declared.Refusal.the-variants as no
 use Rattle.meaning.specs.Basics.{overAt}
 use Rattle.meaning.specs.Graph.{rows, values}
 use Rattle.meaning.specs.Widths.{rowWidth, outputWidth, widths}
-use Rattle.meaning.specs.Refusals.{sizedOrder, buffer, sized, measured, widthsWritten, firstOf}
+use Rattle.meaning.specs.Refusals.{sizedOrder, sized, measured, widthsWritten, firstOf}
 use Rattle.laws.proofs.Graph.Rows.{length-rows, length-values}
-use Rattle.laws.proofs.Refusals.Stages.{stops, passes, stops-at, passes-on, refused-done, accepted-done}
+use Rattle.laws.proofs.Refusals.Stages.{stage-refused, buffer-refused, all-written}
 use Rattle.laws.proofs.Refusals.Checked.{GoodWidth, sized-of}
 use Rattle.laws.proofs.Lists.Over.{over-part}
 use Rattle.widths.proofs.measure.Statement.{statement}
 use Rattle.widths.proofs.measure.Tie as tie
 
-abbrev room : ℕ → ℕ → List Bool
-room needed have = leb needed have ∷ []
+-- where the check has answered, and what was asked
+abbrev told : tie.After-enum-told → tie.After-check-width
+told c = c .before .before
 
-in-order : (c : tie.After-check-width) → let a = c .before .before .before .args in
+abbrev asked : tie.After-check-width → tie.Start
+asked c = c .before .before .before
+
+in-order : (c : tie.After-check-width) → let a = asked c .args in
     c .check-width .result ≡ firstOf (sizedOrder (a .b) (a .ts .now) (a .n) (a .words .now) (a .input))
 unfolding sized
 in-order c = c .check-width .ensures
 
-good : (c : tie.After-enum-told) → let a = c .before .before .before .before .before .args in GoodWidth (a .b) (a .ts .now) (a .n) (a .words .now) (a .input)
-good c = sized-of _ _ _ _ _ (sym (c .before .before .check-width .ensures) ∙ c .enum-told .given .1)
-
--- past the check and the input width
-past : (c : tie.After-enum-told) → let a = c .before .before .before .before .before .args in
-    measured (a .b) (a .ts .now) (a .n) (a .words .now) (a .input) (length (a .out .now)) ≡ firstOf (buffer (a .n + length (a .ts .now)) (length (a .out .now)) ∷ [])
-unfolding measured
-past c =
-    let a = c .before .before .before .before .before .args in
-    passes-on (sizedOrder (a .b) (a .ts .now) (a .n) (a .words .now) (a .input)) (buffer (a .n + length (a .ts .now)) (length (a .out .now)) ∷ []) _
-    (in-order (c .before .before)) (c .enum-told .given .1)
+good : (c : tie.After-enum-told) → let a = asked (told c) .args in GoodWidth (a .b) (a .ts .now) (a .n) (a .words .now) (a .input)
+good c = sized-of _ _ _ _ _ (sym (told c .check-width .ensures) ∙ c .enum-told .given .1)
 
 check-width-requires : tie.Need-check-width-requires
 check-width-requires c κs = search needs
@@ -52,20 +43,17 @@ enum-told-2 c = search needs
 returns : tie.Need-returns
 unfolding measured widthsWritten
 returns c =
-    let a = c .before .before .before .before .before .args in
-    refused-done _ _ _ _ _
-    (stops-at (sizedOrder (a .b) (a .ts .now) (a .n) (a .words .now) (a .input)) (buffer (a .n + length (a .ts .now)) (length (a .out .now)) ∷ []) _ _
-    (in-order (c .before .before)) (c .enum-told2 .given .1)) (c .enum-told2 .given .1)
+    let a = asked (c .before .before) .args in
+    stage-refused (sizedOrder (a .b) (a .ts .now) (a .n) (a .words .now) (a .input)) (a .n + length (a .ts .now)) _ _ _ (in-order (c .before .before)) _ (c .enum-told2 .given .1)
 
 add-if1 : tie.Need-add-if1
 add-if1 c = let g = good c .good .room in omega arith
 
 returns-2 : tie.Need-returns-2
-unfolding widthsWritten
+unfolding measured widthsWritten
 returns-2 c =
-    let a = c .before .before .before .before .before .before .args in
-    refused-done _ _ no.Buffer _ _
-    (sym (past (c .before) ∙ stops no.Buffer (room (a .n + length (a .ts .now)) (length (a .out .now))) [] (rw (lt-leb _ _ (c .if1 .taken))))) refl
+    let a = asked (told (c .before)) .args in
+    buffer-refused (sizedOrder (a .b) (a .ts .now) (a .n) (a .words .now) (a .input)) (a .n + length (a .ts .now)) _ _ _ (in-order (told (c .before))) (c .before .enum-told .given .1) (c .if1 .taken)
 
 row-widths-requires : tie.Need-row-widths-requires
 row-widths-requires c κs = let g = good (c .before .before) in ((g .width .1, g .good .room), omega arith)
@@ -79,15 +67,14 @@ same-length : tie.Need-same-length
 same-length c = search needs
 
 returns-3 : tie.Need-returns-3
-unfolding widthsWritten widths
+unfolding measured widthsWritten widths
 returns-3 c =
     let second = c .before .before in
     let first = second .before .before .before .before in
     let e = first .before .before in
-    let a = e .before .before .before .before .before .before .args in
+    let a = asked (told (e .before)) .args in
     let xs = values (rows (a .n) (a .words .now)) in
-    accepted-done _ _ _ _
-    (past (e .before) ∙ passes no.Buffer (room (a .n + length (a .ts .now)) (length (a .out .now))) [] (rw (le-leb _ _ (e .if1 .left))))
+    all-written (sizedOrder (a .b) (a .ts .now) (a .n) (a .words .now) (a .input)) (a .n + length (a .ts .now)) _ _ _ (in-order (told (e .before))) _ (e .before .enum-told .given .1) (e .if1 .left)
     (second .output-widths .ensures
     ∙ ap (overAt (a .n) (map (outputWidth (a .input)) (a .ts .now))) (first .row-widths .ensures)
     ∙ over-part (map (rowWidth (a .input)) xs) (map (outputWidth (a .input)) (a .ts .now)) (a .out .now) (a .n)
