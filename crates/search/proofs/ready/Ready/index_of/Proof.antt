@@ -25,8 +25,11 @@ few r v e = omega (arith, index-most (listed r) v, list-length r e)
 index-from-requires : tie.Need-index-from-requires
 index-from-requires c κs = search needs
 
+its-index : (c : tie.After-index-from) → c .index-from .result ≡ indexFrom 0 (listed (start c .args .t1)) (start c .args .v)
+its-index c = c .index-from .ensures
+
 cast-result : tie.Need-cast-result
-cast-result c = omega (arith, c .index-from .ensures, few (start c .args .t1) (start c .args .v) (places (start c)))
+cast-result c = omega (arith, its-index c, few (start c .args .t1) (start c .args .v) (places (start c)))
 
 returns : tie.Need-returns
 returns c = search needs
