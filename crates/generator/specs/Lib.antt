@@ -1,4 +1,3 @@
 pub mod Rule
 pub mod Growth
 pub mod Search
-pub mod Lists

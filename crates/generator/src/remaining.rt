@@ -1,19 +1,21 @@
 // The wanted constants that are left to serve.
 use constants::wanted::Wanted;
+use meaning::MOST_TARGETS;
 use search::ready::Ready;
+ghost use mathlib.Core.Path.{_≡_};
 ghost use Prim.Native.Nat.{_≤_};
+ghost use Rattle.meaning.specs.Limits.{mostTargets};
 ghost use Rattle.meaning.specs.Generator.{remaining};
-ghost use Rattle.constants.specs.Held.{kept};
+ghost use Rattle.constants.specs.Held.{wantedHeld, kept};
 ghost use Rattle.search.specs.Listed.{listed};
-ghost use Rattle.generator.specs.Lists.{Lists};
 
 // The wanted constants that are not ready.
 pub fn left(set: Ready, w: Wanted) -> Wanted
-    requires { ⌜ w .count ≤ 16 ⌝ }
-    ensures { λ r. ⌜ Lists r (remaining (listed set) (kept w)) ⌝ }
+    requires { ⌜ w .count ≤ mostTargets ⌝ }
+    ensures { λ r. ⌜ r ≡ wantedHeld (remaining (listed set) (kept w)) ⌝ }
 {
     let mut r = Wanted {
-        values: [0u32; 16],
+        values: [0u32; MOST_TARGETS],
         count: 0,
     };
     let mut i = 0;

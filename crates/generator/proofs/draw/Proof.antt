@@ -4,12 +4,14 @@ use mathlib.Core.List.{List}
 use Prim.Native.Nat.{ℕ, _-_, _≤_, _<_}
 use native.Mathlib.Omega.{arith}
 use borrow.Author.Needs.{needs}
-use lib.ListN.{length}
+use lib.ListN.{length, length-take}
 use lib.Seq.{length-take-le}
 use Rattle.meaning.specs.Limits.{mostRows}
 use Rattle.meaning.specs.Generator.{remaining, added}
 use Rattle.laws.proofs.Generator.Remaining.{remaining-in}
 use Rattle.constants.specs.Held.{kept}
+use Rattle.constants.proofs.Insertion.{held-list, held-count}
+use Rattle.generator.proofs.RemainingLaws.{few-left}
 use Rattle.search.specs.Listed.{listed}
 use Rattle.generator.specs.Growth.{drawnRows, Open, Grown}
 use Rattle.generator.specs.Rule.{AllServable}
@@ -55,13 +57,13 @@ turn-requires c κs =
     let n = l .before in
     let t = n .before .before in
     let f = t .before .before .before .before .before .before .before in
-    let e = l .left .ensures .list in
+    let e = held-list _ _ (l .left .ensures) in
     record {
       room =
           subst⁻¹ (λ (cs : List ℕ). Open (f .args .limit) (t .loop .set) (t .loop .map) (t .loop .out) (length (added (f .args .limit) (drawnRows (t .loop .set) (t .loop .out)) cs))) e
           (next-open n);
       limit = f .pre .0 .most;
-      few = l .left .ensures .bound;
+      few = omega (arith, held-count _ _ (l .left .ensures), few-left (listed (t .loop .set)) (kept (f .args .w)), length-take (f .args .w .count) (f .args .w .values), f .pre .1);
       servable = subst⁻¹ (AllServable (f .args .limit)) e (λ k i. f .pre .0 .servable k (remaining-in _ _ k i .0));
     }
 
@@ -82,7 +84,7 @@ loop-again c =
     let h : t .loop .k < f .args .w .count = n .if1 .taken in (
       omega arith,
       turned-more (d .start .ensures .0) (opened d) (t .loop .inv .1) (omega (arith, its-length f)) (f .pre .0 .few)
-          (subst (λ (cs : List ℕ). Grown (f .args .limit) (t .loop .set) (added (f .args .limit) (drawnRows (t .loop .set) (t .loop .out)) cs) (u .turn .result) (u .turn .last .0) (t .loop .out) (u .turn .last .1 .1 .1 .0)) (l .left .ensures .list) (u .turn .ensures)),
+          (subst (λ (cs : List ℕ). Grown (f .args .limit) (t .loop .set) (added (f .args .limit) (drawnRows (t .loop .set) (t .loop .out)) cs) (u .turn .result) (u .turn .last .0) (t .loop .out) (u .turn .last .1 .1 .1 .0)) (held-list _ _ (l .left .ensures)) (u .turn .ensures)),
       c .before .before .before .map2 .given ∙ t .loop .inv .2,
       c .before .out .given ∙ t .loop .inv .3,
     )

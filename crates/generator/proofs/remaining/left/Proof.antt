@@ -71,7 +71,7 @@ returns : tie.Need-returns Inv-loop μ-loop
 returns c =
     let s = c .before in
     let a = s .before .args in
-    sift-end (listed (a .t1)) (kept (a .t2)) (s .loop .r) (s .loop .i) (s .loop .inv .1) (kept-end (a .t2) (s .loop .i) (c .loop-test .left)) (omega arith)
+    sift-end (listed (a .t1)) (kept (a .t2)) (s .loop .r) (s .loop .i) (s .loop .inv .1) (kept-end (a .t2) (s .loop .i) (c .loop-test .left))
 
 pub left-spec : {M : Type 1} → statement M
 left-spec =
