@@ -17,14 +17,14 @@ use Rattle.laws.proofs.Graph.Rows.{length-flat, flat-append, ready-append, rows
 use Rattle.laws.proofs.Generator.Steps.{rule-c-ready, rule-c-row, rule-c-end}
 use Rattle.laws.proofs.Lists.Over.{length-over-at, over-at-part, over-at-none}
 use Rattle.search.specs.declared.ready.Ready.{Ready}
-use Rattle.search.specs.Listed.{listed, Added}
+use Rattle.search.specs.Listed.{listed, grown, Added}
 use Rattle.search.proofs.ReadyLaws.{grown-room}
 use Rattle.meaning.specs.Operation.{Odd}
 use Rattle.search.specs.Marks.{Holds, State}
 use Rattle.search.proofs.Marks.{include-is, one-map}
 use Rattle.generator.specs.Search.{found}
 use Rattle.generator.specs.declared.first_choice.Found.the-variants.{At, Missing}
-use Rattle.generator.specs.Growth.{drawnRows, Open, Grown, prefixRows}
+use Rattle.generator.specs.Growth.{drawnRows, Open, grownBy, Grown, prefixRows}
 
 -- ---- what was found
 
@@ -59,9 +59,10 @@ prefix-new before p e = rw e
 -- ---- growth
 
 pub grown-none : {L : ℕ} {set : Ready} {map out : List ℕ} (n : ℕ) → Open L set map out n → Grown L set [] set map out out
-unfolding flat
+unfolding flat grownBy
 grown-none {L} {set} {map} {out} n o =
     record {
+      is = refl;
       fit = o .fit;
       state = o .state;
       count = omega arith;
@@ -73,12 +74,13 @@ grown-none {L} {set} {map} {out} n o =
 pub grown-one : {L : ℕ} {set new : Ready} {map marks before now : List ℕ} (x : Row) → Open L set map before 1 → Odd L (x .value)
     → length marks ≡ length map → Holds marks (λ c. reach? L (take (set .count) (set .values) ++ (x .value ∷ [])) c) → Added set (x .value) new
     → now ≡ overAt (rowLength * (set .count - 1)) (words x) before → Grown L set (x ∷ []) new marks before now
-unfolding flat
+unfolding flat grownBy
 grown-one {L} {set} {new} {map} {marks} {before} {now} x o v e h a w =
     let below = o .space in
     let f = o .fit in
     let is = a .is ∙ grown-room set (x .value) (omega arith) in
     record {
+      is = a .is;
       fit = a .fit f;
       state = subst⁻¹ (λ (r : Ready). State L marks (r .values) (r .count)) is
           (include-is L map marks (set .values) (set .count) (x .value) (o .state) (omega (arith, f .places)) (v .0) (v .1) e h);
@@ -91,10 +93,18 @@ grown-one {L} {set} {new} {map} {marks} {before} {now} x o v e h a w =
 inside : {L : ℕ} {set : Ready} {map out : List ℕ} (n : ℕ) → Open L set map out n → rowLength * (set .count - 1) + rowLength * n ≤ length out
 inside n o = let s = o .space in let w = o .words in omega arith
 
+by-both : (set : Ready) (vs ws : List ℕ) → grownBy (grownBy set vs) ws ≡ grownBy set (vs ++ ws)
+unfolding grownBy
+by-both set [] ws = refl
+by-both set (v ∷ vs) ws = by-both (grown set v) vs ws
+
 pub grown-then : {L : ℕ} {old mid new : Ready} {map marks more before now last : List ℕ} {xs ys : List Row} (n : ℕ) → Open L old map before n
     → Grown L old xs mid marks before now → Grown L mid ys new more now last → Grown L old (xs ++ ys) new more before last
 grown-then {old = old} {mid} {new} {before = before} {now} {last} {xs} {ys} n o g h =
     record {
+      is =
+          h .is ∙ ap (λ (r : Ready). grownBy r (values ys)) (g .is) ∙ by-both old (values xs) (values ys)
+          ∙ ap (grownBy old) (sym (map-append (λ x. x .value) xs ys));
       fit = h .fit;
       state = h .state;
       count = omega (arith, g .count, h .count, length-append xs ys);
@@ -201,10 +211,10 @@ module _ {L : ℕ} {old : Ready} {ps : List Prefix} {map before : List ℕ} (o :
 
 -- ---- one answer
 
--- any two results that the contract allows list the same values and leave the same map and the same words
+-- any two results that the contract allows are the same set, and leave the same map and the same words
 pub one-grown : {L : ℕ} {old new new′ : Ready} {xs : List Row} {map map′ before now now′ : List ℕ} → length map ≡ length map′
-    → Grown L old xs new map before now → Grown L old xs new′ map′ before now′ → (listed new ≡ listed new′) × (map ≡ map′) × (now ≡ now′)
+    → Grown L old xs new map before now → Grown L old xs new′ map′ before now′ → (new ≡ new′) × (map ≡ map′) × (now ≡ now′)
 one-grown {L} {old} {new} {new′} {xs} {map} {map′} e g h =
-    let same : listed new′ ≡ listed new = h .lists ∙ sym (g .lists) in
-    let held : Holds map′ (λ c. reach? L (listed new) c) = subst (λ (vals : List ℕ). Holds map′ (λ c. reach? L vals c)) same (h .state .reach) in
+    let same : new′ ≡ new = h .is ∙ sym (g .is) in
+    let held : Holds map′ (λ c. reach? L (listed new) c) = subst (λ (r : Ready). Holds map′ (λ c. reach? L (listed r) c)) same (h .state .reach) in
     (sym same, one-map map map′ (λ c. reach? L (listed new) c) e (g .state .reach) held, g .writes ∙ sym (h .writes))

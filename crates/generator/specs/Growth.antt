@@ -13,7 +13,7 @@ use Rattle.meaning.specs.Graph.{rowLength, rows, flat, values, ready}
 use Rattle.meaning.specs.Digits.{prefixes}
 use Rattle.meaning.specs.Generator.{prefixRow}
 use Rattle.search.specs.declared.ready.Ready.{Ready}
-use Rattle.search.specs.Listed.{listed, Fit}
+use Rattle.search.specs.Listed.{listed, grown, Fit}
 use Rattle.meaning.specs.Operation.{Odd}
 use Rattle.search.specs.Marks.{State}
 
@@ -30,8 +30,14 @@ pub record Open (L : ℕ) (set : Ready) (map out : List ℕ) (n : ℕ) : Type 0 
   pub space : set .count + n ≤ mostReady
   pub words : rowLength * mostRows ≤ length out
 
--- the rows xs have been added: their words stand behind those before, and nothing else is changed
+-- values put into a set one after the other
+unfoldable pub grownBy : Ready → List ℕ → Ready
+grownBy set [] = set
+grownBy set (v ∷ vs) = grownBy (grown set v) vs
+
+-- the rows xs have been added: their values are in the set, their words stand behind those before, and nothing else is changed
 pub record Grown (L : ℕ) (old : Ready) (xs : List Row) (new : Ready) (map before now : List ℕ) : Type 0 where
+  pub is : new ≡ grownBy old (values xs)
   pub fit : Fit new
   pub state : State L map (new .values) (new .count)
   pub count : new .count ≡ old .count + length xs
