@@ -2,9 +2,10 @@
 use mathlib.Core.Path.{_≡_}
 use mathlib.Core.Bool.{Bool}
 use mathlib.Core.List.{List}
-use Prim.Native.Nat.{ℕ, _%_, _≤_, _<_}
+use Prim.Native.Nat.{ℕ, _%_, _^_, _≤_, _<_}
 use lib.Dec.{T}
-use Rattle.search.specs.Marks.{marked}
+use Rattle.meaning.specs.Operation.{Odd}
+use Rattle.search.specs.Marks.{marked, Wide, Ready}
 
 -- the odd number s is not below low, is marked, and passes the test
 pub record Seen (map : List ℕ) (low : ℕ) (Q : ℕ → Bool) (s : ℕ) : Type 0 where
@@ -18,3 +19,16 @@ pub record Lowers (map : List ℕ) (low : ℕ) (Q : ℕ → Bool) (old new : ℕ
   pub least : new ≤ old
   pub found : new < old → Seen map low Q new
   pub none-below : (s : ℕ) → s < new → Seen map low Q s → ⊥
+
+-- what may be looked at by a map: the results on two values, and on a constant and each of n ready values, below what is known
+pub record Looking (L : ℕ) (map : List ℕ) (u v best : ℕ) : Type 0 where
+  pub wide : Wide L map
+  pub first : Odd L u
+  pub second : Odd L v
+  pub known : best ≤ 2 ^ L
+
+pub record LookingAll (L : ℕ) (map vals : List ℕ) (n c best : ℕ) : Type 0 where
+  pub wide : Wide L map
+  pub ready : Ready L vals n
+  pub constant : Odd L c
+  pub known : best ≤ 2 ^ L

@@ -6,13 +6,14 @@ ghost use mathlib.Core.List.{_∷_};
 ghost use Prim.Native.Nat.{_+_, _-_, _*_, _%_, _^_, _≤_, _<_, min};
 ghost use lib.Dec.{eqb};
 ghost use lib.ListN.{length, take};
+ghost use Rattle.meaning.specs.Limits.{mostLimit};
 ghost use Rattle.meaning.specs.Basics.{any};
 ghost use Rattle.meaning.specs.Distance.{oneOp?, reach?, serves?, candidates};
 ghost use Rattle.search.specs.Sides.{hits?, sideTo?, with?, twice?};
 ghost use Rattle.meaning.specs.Operation.{Odd};
-ghost use Rattle.search.specs.Marks.{Wide, Ready, State};
+ghost use Rattle.search.specs.Marks.{Wide, State};
 ghost use Rattle.search.specs.Choices.{chosenIn};
-ghost use Rattle.search.specs.Least.{Lowers};
+ghost use Rattle.search.specs.Least.{Lowers, Looking, LookingAll};
 
 // The smallest value that serves and the candidates tried, or only these.
 pub enum Trials {
@@ -51,7 +52,7 @@ fn look(map: &[u8], limit: u32, n: u64, low: u32, best: u32) -> u32
 
 // The same for all results of operations on u as it is and v shifted, up to the shift from which on nothing comes.
 fn look_side(map: &[u8], limit: u32, u: u32, v: u32, low: u32, best: u32) -> u32
-    requires { ⌜ Wide limit (now map) × Odd limit u × Odd limit v × (best ≤ 2 ^ limit) ⌝ }
+    requires { ⌜ Looking limit (now map) u v best ⌝ }
     ensures { λ r. ⌜ Lowers (now (map .entry)) low (λ s. sideTo? limit u v (limit + 1) s) best r ⌝ }
 {
     let a = u as u64;
@@ -72,7 +73,7 @@ fn look_side(map: &[u8], limit: u32, u: u32, v: u32, low: u32, best: u32) -> u32
 
 // The same for all results of operations on u and v: one of the two shifts is 0.
 fn look_pair(map: &[u8], limit: u32, u: u32, v: u32, low: u32, best: u32) -> u32
-    requires { ⌜ Wide limit (now map) × Odd limit u × Odd limit v × (best ≤ 2 ^ limit) ⌝ }
+    requires { ⌜ Looking limit (now map) u v best ⌝ }
     ensures { λ r. ⌜ Lowers (now (map .entry)) low (λ s. oneOp? limit u v s) best r ⌝ }
 {
     let least = look_side(map, limit, u, v, low, best);
@@ -81,7 +82,7 @@ fn look_pair(map: &[u8], limit: u32, u: u32, v: u32, low: u32, best: u32) -> u32
 
 // The same for all results of operations on c and each ready value.
 fn look_each(map: &[u8], limit: u32, ready: &[u32], n: usize, c: u32, low: u32, best: u32) -> u32
-    requires { ⌜ Wide limit (now map) × Ready limit (now ready) n × Odd limit c × (best ≤ 2 ^ limit) ⌝ }
+    requires { ⌜ LookingAll limit (now map) (now ready) n c best ⌝ }
     ensures { λ r. ⌜ Lowers (now (map .entry)) low (λ s. with? limit c (take n (now (ready .entry))) s) best r ⌝ }
 {
     let mut least = best;
@@ -132,7 +133,7 @@ fn least_partner(
     low: u32,
     best: u32,
 ) -> u32
-    requires { ⌜ Wide limit (now map) × Ready limit (now ready) n × Odd limit c × (best ≤ 2 ^ limit) ⌝ }
+    requires { ⌜ LookingAll limit (now map) (now ready) n c best ⌝ }
     ensures { λ r. ⌜
         Lowers (now (map .entry)) low (λ s. with? limit c (take n (now (ready .entry))) s || twice? limit c s) best r
         ⌝ }
@@ -143,7 +144,7 @@ fn least_partner(
 
 // As many as there are candidates, and one: all odd numbers from 3 on below 2^limit, or `ceiling` of them.
 fn last(limit: u32, ceiling: u32) -> u32
-    requires { ⌜ (1 ≤ limit) × (limit ≤ 19) ⌝ }
+    requires { ⌜ (1 ≤ limit) × (limit ≤ mostLimit) ⌝ }
     ensures { λ r. ⌜ r ≡ min (2 ^ (limit - 1)) (ceiling + 1) ⌝ }
 {
     let whole = arith::power(limit - 1);

@@ -27,7 +27,7 @@ mul-bound c = record { fits = omega (arith, bounds c) }
 least-partner-requires : tie.Need-least-partner-requires
 least-partner-requires c κs =
     let st = c .before .before .before in
-    (st .pre .0 .wide, st .pre .0 .values, st .pre .1, bounds c .0)
+    record { wide = st .pre .0 .wide; ready = st .pre .0 .values; constant = st .pre .1; known = bounds c .0 }
 
 returns : tie.Need-returns
 returns c =

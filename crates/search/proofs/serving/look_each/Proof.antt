@@ -31,7 +31,13 @@ look-pair-requires : tie.Need-look-pair-requires Inv-loop μ-loop
 look-pair-requires c κs =
     let at = c .before .before in
     let st = at .before .before .before in
-    (st .pre .0, st .pre .2, st .pre .1 .1 (at .loop .i) (c .before .loop-test .taken), omega (arith, st .pre .3, at .loop .inv .1 .least))
+    let p = st .pre in
+    record {
+      wide = p .wide;
+      first = p .constant;
+      second = p .ready .1 (at .loop .i) (c .before .loop-test .taken);
+      known = omega (arith, p .known, at .loop .inv .1 .least);
+    }
 
 add-i : tie.Need-add-i Inv-loop μ-loop
 add-i c = search needs
@@ -46,7 +52,7 @@ loop-again c =
     let a = st .args in
     let h = c .before .before .loop-test .taken in (
       omega arith,
-      with-more (a .limit) (a .c) (a .ready .now) (a .map .now) (a .low) (at .loop .i) (omega (arith, st .pre .1 .0)) (at .loop .inv .1) (c .look-pair .ensures),
+      with-more (a .limit) (a .c) (a .ready .now) (a .map .now) (a .low) (at .loop .i) (omega (arith, st .pre .ready .0)) (at .loop .inv .1) (c .look-pair .ensures),
     )
 
 returns : tie.Need-returns Inv-loop μ-loop

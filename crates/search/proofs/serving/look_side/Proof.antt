@@ -35,7 +35,7 @@ returns c =
     let s = c .before .before .before in
     let st = s .before .before .before in
     let a = st .args in
-    side-past (a .limit) (a .u) (a .v) (a .map .now) (a .low) (s .loop .l) (st .pre .1) (st .pre .2) (omega (arith, c .before .before .loop-test .taken))
+    side-past (a .limit) (a .u) (a .v) (a .map .now) (a .low) (s .loop .l) (st .pre .first) (st .pre .second) (omega (arith, c .before .before .loop-test .taken))
     (omega (arith, c .if1 .taken, c .before .shifted .ensures, s .loop .inv .2)) (s .loop .inv .3)
 
 add-look : tie.Need-add-look Inv-loop μ-loop
