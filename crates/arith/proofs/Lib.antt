@@ -1,2 +1,2 @@
 -- Laws that the functions' proofs cite.
-mod Places
+pub mod Places
