@@ -16,8 +16,12 @@ fit c = search needs
 fit2 : (c : tie.After-of-answer2) → SFits w64 (c .of-answer2 .result)
 fit2 c = search needs
 
-few : (c : tie.After-enum-told) → c .before .before .before .before .before .before .before .before .args .rows ≤ mostRows
-few c = measured-rows _ _ _ _ _ _ (sym (c .before .before .before .before .measure .ensures .answers) ∙ c .enum-told .given .1)
+-- where the call behind has answered
+abbrev told : tie.After-enum-told → tie.After-measure
+told c = c .before .before .before .before
+
+few : (c : tie.After-enum-told) → told c .before .before .before .before .args .rows ≤ mostRows
+few c = measured-rows _ _ _ _ _ _ (sym (told c .measure .ensures .answers) ∙ c .enum-told .given .1)
 
 measure-requires : tie.Need-measure-requires
 measure-requires c κs = search needs

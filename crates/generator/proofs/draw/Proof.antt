@@ -40,7 +40,7 @@ loop-holds : tie.Need-loop-holds Inv-loop μ-loop
 loop-holds c = let d = c .before .before in (omega arith, turned-start (d .start .ensures .0) (opened d), refl, refl)
 
 left-requires : tie.Need-left-requires Inv-loop μ-loop
-left-requires c κs = c .before .before .before .before .before .before .before .before .before .pre .1
+left-requires c κs = let t = c .before .before in t .before .before .before .before .before .before .before .pre .1
 
 -- what is left is servable, and the next turn has room
 next-open : (c : tie.Then1 Inv-loop μ-loop) → let t = c .before .before in let a = t .before .before .before .before .before .before .before .args in

@@ -1,9 +1,9 @@
 -- `next_product` meets its contract. Assumes nothing.
 use mathlib.Core.Path.{_≡_, sym, _∙_, subst₂}
-use Prim.Native.Nat.{_≤_}
+use Prim.Native.Nat.{ℕ, _≤_}
 use native.Mathlib.Omega.{arith}
 use borrow.Author.Needs.{needs}
-use lib.IntN.{pos}
+use lib.IntN.{ℤ, pos}
 use lib.ListN.{getD}
 use mir.Syntax.{w64}
 use mir.Val.{SFits, toZ, ofZ}
@@ -18,10 +18,17 @@ known : (c : tie.After-row-after) → let s = c .before .before .args in let y =
     (y .u ≤ s .i) × (y .v ≤ s .i) × Within (getD (s .before .now) (y .u) (pos 0)) (getD (s .before .now) (y .v) (pos 0)) y
 known c = read-of _ _ _ _ (c .before .before .pre) (c .row-after .ensures)
 
-p-is : (c : tie.After-p) → let y = c .before .before .before .before .before .row-after .result in let z = getD (c .before .before .before .before .before .before .before .args .before .now) (y .u) (pos 0) in toZ w64 (ofZ w64 z) ≡ z
+-- where the row was read, and an operand's product of those before
+abbrev read : tie.After-p → tie.After-row-after
+read c = c .before .before .before .before .before
+
+abbrev before-at : tie.After-row-after → ℕ → ℤ
+before-at c k = getD (c .before .before .args .before .now) k (pos 0)
+
+p-is : (c : tie.After-p) → let z = before-at (read c) (read c .row-after .result .u) in toZ w64 (ofZ w64 z) ≡ z
 p-is c = toZ-ofZ w64 _ (record { sfits = c .p .given })
 
-q-is : (c : tie.After-q) → let y = c .before .before .before .before .before .before .row-after .result in let z = getD (c .before .before .before .before .before .before .before .before .args .before .now) (y .v) (pos 0) in toZ w64 (ofZ w64 z) ≡ z
+q-is : (c : tie.After-q) → let r = read (c .before) in let z = before-at r (r .row-after .result .v) in toZ w64 (ofZ w64 z) ≡ z
 q-is c = toZ-ofZ w64 _ (record { sfits = c .q .given })
 
 fit : (c : tie.After-row-product) → SFits w64 (c .row-product .result)

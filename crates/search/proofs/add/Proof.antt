@@ -21,9 +21,10 @@ same-length c = search needs
 
 returns : tie.Need-returns
 returns c =
-    let one = c .before .before .before .before .before .before .with-each .ensures in
+    let each = c .before .before .before .before .before .before in
+    let one = each .with-each .ensures in
     let two = c .before .before .side .ensures in
-    let st = c .before .before .before .before .before .before .before .before .before .before in
+    let st = each .before .before .before .before in
     let a = st .args in
     (two .long ∙ one .long, reach-more (a .limit) (take (a .n) (a .ready .now)) (a .v) (st .pre .0 .reach) one two)
 

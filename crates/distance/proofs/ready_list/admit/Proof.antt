@@ -45,7 +45,11 @@ past-length c =
     let a = c .before .before .before .before .before .args in
     past-bits (c .before .before) ∙ passes (no.Ready 0) (lengths (a .vals .now)) (readyValues (a .b) (a .vals .now) ∷ target (a .b) (a .c) ∷ []) (lengths-hold c)
 
-past-values : (c : tie.After-enum-told) → let a = c .before .before .before .before .before .before .before .before .args in
+-- where all values are odd and low enough, and the beginning
+abbrev asked : tie.After-enum-told → tie.Start
+asked c = let v = c .before .before in v .before .before .before .before .before .before
+
+past-values : (c : tie.After-enum-told) → let a = asked c .args in
     firstOf (distanceOrder (a .b) (a .vals .now) (a .c)) ≡ firstOf (target (a .b) (a .c) ∷ [])
 past-values c =
     let v = c .before .before in
@@ -93,22 +97,22 @@ returns-3 c =
 odd-below-requires : tie.Need-odd-below-requires
 odd-below-requires c κs = let h = small (c .before .before .before .before .before) in omega arith
 
-test-is : (c : tie.After-odd-below) → let a = c .before .before .before .before .before .before .before .before .before .args in
+test-is : (c : tie.After-odd-below) → let a = asked (c .before) .args in
     c .odd-below .result ≡ all (odd (a .b) (a .c))
 test-is c =
-    let a = c .before .before .before .before .before .before .before .before .before .args in
+    let a = asked (c .before) .args in
     c .odd-below .ensures ∙ pair-all (eqb (a .c % 2) 1) (ltb (a .c) (2 ^ a .b))
 
 returns-4 : tie.Need-returns-4
 returns-4 c =
     let t = c .before .before in
-    let a = t .before .before .before .before .before .before .before .before .args in
+    let a = asked t .args in
     sym (past-values t ∙ stops no.Target (odd (a .b) (a .c)) [] (sym (test-is (c .before)) ∙ not-true _ (c .if3 .taken)))
 
 returns-5 : tie.Need-returns-5
 returns-5 c =
     let t = c .before .before in
-    let a = t .before .before .before .before .before .before .before .before .args in
+    let a = asked t .args in
     t .enum-told .given .1 ∙ sym (past-values t ∙ passes no.Target (odd (a .b) (a .c)) [] (sym (test-is (c .before)) ∙ not-false _ (c .if3 .left)))
 
 pub admit-spec : {M : Type 1} → statement M

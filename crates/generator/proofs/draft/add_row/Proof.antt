@@ -5,9 +5,18 @@ use Rattle.generator.proofs.DraftLaws.{grown-one}
 use Rattle.generator.proofs.draft.add_row.Statement.{statement}
 use Rattle.generator.proofs.draft.add_row.Tie as tie
 
+-- where the map was marked, where the words were written, and the beginning
+abbrev marked : tie.After-with → tie.After-add
+marked c = c .before .before .before
+
+abbrev written : tie.After-with → tie.After-put-row
+written c = marked c .before .before .before .before .before .before .before
+
+abbrev start : tie.After-with → tie.Start
+start c = written c .before .before .before .before
+
 -- the set that is returned
-added : (c : tie.After-with) → let a = c .before .before .before .before .before .before .before .before .before .before .before .before .before .before .args in
-    Added (a .t3) (a .x .value) (c .with .result)
+added : (c : tie.After-with) → let a = start c .args in Added (a .t3) (a .x .value) (c .with .result)
 added c = c .with .ensures
 
 sub-put-row : tie.Need-sub-put-row
@@ -30,10 +39,8 @@ same-length-2 c = search needs
 
 returns : tie.Need-returns
 returns c =
-    let add = c .before .before .before in
-    let put = add .before .before .before .before .before .before .before in
-    let first = put .before .before .before .before in
-    grown-one (first .args .x) (first .pre .0) (first .pre .1) (add .add .ensures .0) (add .add .ensures .1) (added c) (put .put-row .ensures)
+    let first = start c in
+    grown-one (first .args .x) (first .pre .0) (first .pre .1) (marked c .add .ensures .0) (marked c .add .ensures .1) (added c) (written c .put-row .ensures)
 
 pub add-row-spec : {M : Type 1} → statement M
 add-row-spec =

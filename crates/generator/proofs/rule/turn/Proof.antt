@@ -82,10 +82,14 @@ with-s c =
 
 -- ---- step C
 
-added-by-c : (c : tie.After-enum-told2) → let f = start-b (c .before .before .before .before) in
+-- where step B found nothing, it was asked
+abbrev unpicked : tie.After-enum-told2 → tie.After-enum-told
+unpicked c = c .before .before .before .before
+
+added-by-c : (c : tie.After-enum-told2) → let f = start-b (unpicked c) in
     added (f .args .limit) (drawn f) (kept (f .args .t5)) ≡ ruleC (drawn f) (prefixes (getD (f .args .t5 .values) 0 0))
 added-by-c c =
-    let n = c .before .before .before .before in
+    let n = unpicked c in
     let f = start-b n in
     let a = f .args in
     let some = n .before .before .before .before .if1 .left in
@@ -145,14 +149,14 @@ enum-known-c-2 c = search needs
 add-first-requires-2 : tie.Need-add-first-requires-2
 add-first-requires-2 c κs =
     let d = c .before .before .before in
-    let f = d .before .before .before .before .before .before .before .before .before .before .before in
+    let f = start-b (asked d) in
     (open-less _ 1 (omega (arith, two d)) (f .pre .room), picked-is d .odd)
 
 add-first-requires-3 : tie.Need-add-first-requires-3
 add-first-requires-3 c κs =
     let e = c .before .before .before .before .before .before in
     let d = e .before .before .before .before in
-    let f = d .before .before .before .before .before .before .before .before .before .before .before in
+    let f = start-b (asked d) in
     (open-on _ 1 (omega (arith, two d, picked-is d .first)) (f .pre .room) (e .add-first2 .ensures), f .pre .servable _ (picked-is d .is-in) .odd)
 
 same-length-3 : tie.Need-same-length-3
@@ -183,9 +187,10 @@ element-copy-out-add-prefixes c = search needs
 add-prefixes-requires : tie.Need-add-prefixes-requires
 add-prefixes-requires c κs =
     let d = c .before .before .before in
-    let f = d .before .before .before .before .before .before .before .before .before .before .before in
+    let n = unpicked d in
+    let f = start-b n in
     let a = f .args in
-    let some = d .before .before .before .before .before .before .before .before .if1 .left in (
+    let some = n .before .before .before .before .if1 .left in (
       subst (λ (xs : List Row). Open (a .limit) (a .set) (a .map .now) (a .out .now) (length xs)) (added-by-c d) (f .pre .room),
       f .pre .servable _ (kept-in (a .t5) 0 (places f) (f .pre .few) (omega arith)),
     )
@@ -200,7 +205,7 @@ returns-4 : tie.Need-returns-4
 returns-4 c =
     let e = c .before .before .before .before in
     let d = e .before .before .before .before in
-    let a = d .before .before .before .before .before .before .before .before .before .before .before .args in
+    let a = start-b (unpicked d) .args in
     subst⁻¹ (λ (xs : List Row). Grown (a .limit) (a .set) xs (e .add-prefixes .result) (e .add-prefixes .last .0) (a .out .now) (e .add-prefixes .last .1 .1 .1 .0))
     (added-by-c d) (e .add-prefixes .ensures)
 
