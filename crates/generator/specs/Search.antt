@@ -1,8 +1,9 @@
 -- The search for the first row, part by part, as answers of the code. Assumes nothing.
+use mathlib.Core.Path.{_≡_}
 use mathlib.Core.Bool.{cond}
 use mathlib.Core.List.{List, [], _∷_}
 use mathlib.Core.Option.{Option, some, none}
-use Prim.Native.Nat.{ℕ, _+_, _-_, _^_, _≤_, _<_}
+use Prim.Native.Nat.{ℕ, _+_, _-_, _^_, _≤_, _<_, min}
 use lib.ListN.{length, getD}
 use Rattle.meaning.specs.Limits.{mostLimit, mostReady}
 use Rattle.meaning.specs.declared.Choice.{Choice}
@@ -29,6 +30,13 @@ pub record Asked (L : ℕ) (vals : List ℕ) (n c : ℕ) : Type 0 where
 pub record Sought (p : Pair) : Type 0 where
   pub limit : p .limit ≤ mostLimit
   pub below : p .c < 2 ^ p .limit
+
+-- two shifts that may be tried for it
+pub record Tried (p : Pair) (l1 l2 : ℕ) : Type 0 where
+  pub sought : Sought p
+  pub left : l1 ≤ p .limit
+  pub right : l2 ≤ p .limit
+  pub unshifted : min l1 l2 ≡ 0
 
 -- the row of one choice for a pair, if it is valid and gives c
 unfoldable pub choiceOf : Pair → ℕ → ℕ → ℕ → Option Choice

@@ -2,12 +2,12 @@
 // ascending, the u index at most the v index.
 use meaning::Choice;
 ghost use mathlib.Core.Path.{_≡_};
-ghost use Prim.Native.Nat.{_≤_, _<_, min};
+ghost use Prim.Native.Nat.{_≤_, _<_};
 ghost use lib.ListN.{take};
 ghost use Rattle.meaning.specs.Limits.{mostLimit};
 ghost use Rattle.meaning.specs.Operation.{size};
 ghost use Rattle.meaning.specs.Generator.{choiceFor};
-ghost use Rattle.generator.specs.Search.{found, Sought, Asked, choiceOf, signChoice, rightChoice, leftChoice, pairChoice, fromChoice};
+ghost use Rattle.generator.specs.Search.{found, Sought, Asked, Tried, choiceOf, signChoice, rightChoice, leftChoice, pairChoice, fromChoice};
 
 pub enum Found {
     At(Choice),
@@ -39,7 +39,7 @@ fn size_of(u: u32, v: u32, l1: u32, l2: u32, s: u32) -> u64
 
 // The row of one choice, if that makes c.
 fn choice(p: Pair, l1: u32, l2: u32, s: u32) -> Found
-    requires { ⌜ Sought p × (l1 ≤ p .limit) × (l2 ≤ p .limit) × (min l1 l2 ≡ 0) × (s ≤ 1) ⌝ }
+    requires { ⌜ Tried p l1 l2 × (s ≤ 1) ⌝ }
     ensures { λ r. ⌜ r ≡ found (choiceOf p l1 l2 s) ⌝ }
 {
     let m = size_of(p.u, p.v, l1, l2, s);
@@ -62,7 +62,7 @@ fn choice(p: Pair, l1: u32, l2: u32, s: u32) -> Found
 
 // Plus before minus.
 fn signs(p: Pair, l1: u32, l2: u32) -> Found
-    requires { ⌜ Sought p × (l1 ≤ p .limit) × (l2 ≤ p .limit) × (min l1 l2 ≡ 0) ⌝ }
+    requires { ⌜ Tried p l1 l2 ⌝ }
     ensures { λ r. ⌜ r ≡ found (signChoice p l1 l2) ⌝ }
 {
     let plus = choice(p, l1, l2, 0);

@@ -7,18 +7,18 @@ use meaning::Refusal;
 ghost use mathlib.Core.Path.{_≡_};
 ghost use mathlib.Core.Bool.{_||_};
 ghost use mathlib.Core.List.{[]};
-ghost use Prim.Native.Nat.{_*_, _≤_};
+ghost use Prim.Native.Nat.{_≤_};
 ghost use lib.Dec.{leb};
 ghost use lib.ListN.{length};
-ghost use Rattle.meaning.specs.Limits.{mostTargets, mostRows};
+ghost use Rattle.meaning.specs.Limits.{mostTargets};
 ghost use Rattle.meaning.specs.declared.Refusal.the-variants.{Unserved};
 ghost use Rattle.meaning.specs.Basics.{has};
-ghost use Rattle.meaning.specs.Graph.{rowLength, rows, served?};
+ghost use Rattle.meaning.specs.Graph.{RowsIn, rows, served?};
 ghost use Rattle.meaning.specs.Refusals.{needEach, validRows, allServed, checked, sized};
 
 // Refusal 6 with the first row that is not valid.
 fn valid_rows(b: u32, n: usize, words: &[u32]) -> Answer
-    requires { ⌜ ((2 ≤ b) × (b ≤ 16)) × ((n ≤ mostRows) × (rowLength * n ≤ length (now words))) ⌝ }
+    requires { ⌜ ((2 ≤ b) × (b ≤ 16)) × RowsIn n (now words) ⌝ }
     ensures { λ r. ⌜ r ≡ validRows b (rows n (now (words .entry))) ⌝ }
 {
     let mut i = 0;
@@ -60,7 +60,7 @@ fn each_served(ts: &[i32], values: &[u32]) -> Answer
 
 // The same of the rows in a slice.
 fn all_served(ts: &[i32], n: usize, words: &[u32]) -> Answer
-    requires { ⌜ (length (now ts) ≤ mostTargets) × ((n ≤ mostRows) × (rowLength * n ≤ length (now words))) ⌝ }
+    requires { ⌜ (length (now ts) ≤ mostTargets) × RowsIn n (now words) ⌝ }
     ensures { λ r. ⌜ r ≡ allServed (rows n (now (words .entry))) (now (ts .entry)) ⌝ }
 {
     let mut values = [0u32; MOST_ROWS];

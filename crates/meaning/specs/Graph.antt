@@ -1,7 +1,7 @@
 -- A graph: rows of words in a slice, and when they are valid. Assumes nothing.
 use mathlib.Core.Bool.{Bool, _&&_, _||_, cond}
 use mathlib.Core.List.{List, [], _∷_, _++_, map}
-use Prim.Native.Nat.{ℕ, zero, suc, _+_, _*_, _<_}
+use Prim.Native.Nat.{ℕ, zero, suc, _+_, _*_, _<_, _≤_}
 use lib.Dec.{ltb, leb}
 use lib.IntN.{ℤ}
 use lib.ListN.{length, getD, drop}
@@ -35,7 +35,10 @@ rowAt w k =
 abbrev pub rowAfter : List ℕ → ℕ → Row
 rowAfter w i = rowAt w (rowLength * i)
 
--- n rows are at most 128, and do not exceed the slice
+-- n rows are at most 128, and do not exceed the slice: as a statement, and as tests
+abbrev pub RowsIn : ℕ → List ℕ → Type 0
+RowsIn n w = (n ≤ mostRows) × (rowLength * n ≤ length w)
+
 abbrev pub rowTests : ℕ → List ℕ → List Bool
 rowTests n w = leb n mostRows ∷ leb (rowLength * n) (length w) ∷ []
 

@@ -24,7 +24,7 @@ use Rattle.meaning.specs.Limits.{limit, mostRows, mostReady}
 use Rattle.meaning.specs.Constants.{oddOf}
 use Rattle.meaning.specs.Distance.{distance, reach?, serves?, candidates}
 use Rattle.meaning.specs.Operation.{Odd}
-use Rattle.meaning.specs.Graph.{rowLength, rowTests, rows, values, Fits, fits?, served?}
+use Rattle.meaning.specs.Graph.{RowsIn, rowLength, rowTests, rows, values, Fits, fits?, served?}
 use Rattle.meaning.specs.Generator.{generated}
 use Rattle.meaning.specs.Job.{Asked, Job, asks, jobOf, jobOrder, natural}
 use Rattle.meaning.specs.Widths.{rowWidth, InOrder}
@@ -154,7 +154,7 @@ admit-told b ts = (between no.Bits 2 b 16, (between no.List 1 (length ts) 16, (o
 
 row-count : (n : ℕ) (w : List ℕ) → Exactly (rowCount n w) (rowCountOut n w)
 row-count n w =
-    needs no.RowCount (rowTests n w) ((n ≤ mostRows) × (rowLength * n ≤ length w))
+    needs no.RowCount (rowTests n w) (RowsIn n w)
     (λ t. (leb→le _ _ (t .0), leb→le _ _ (t .1 .0))) (λ p. (le→leb _ _ (p .0), (le→leb _ _ (p .1), tt)))
 
 target-told : (b c : ℕ) → Exactly (target b c) (targetOut b c)

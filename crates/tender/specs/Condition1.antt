@@ -19,7 +19,7 @@ use Rattle.meaning.specs.Basics.{First, upFrom}
 use Rattle.meaning.specs.Limits.{limit, mostRows, mostReady}
 use Rattle.meaning.specs.Constants.{oddOf}
 use Rattle.meaning.specs.Operation.{Odd}
-use Rattle.meaning.specs.Graph.{rowLength, rows, values, Fits}
+use Rattle.meaning.specs.Graph.{RowsIn, rowLength, rows, values, Fits}
 use Rattle.meaning.specs.Generator.{generated}
 use Rattle.meaning.specs.Widths.{rowWidth, InOrder}
 use Rattle.meaning.specs.Text.{span, numberAt, textOf}
@@ -50,7 +50,7 @@ bufferShort needed room why = (why ≡ no.Buffer) × (room < needed)
 
 -- 5
 abbrev pub rowCountOut : ℕ → List ℕ → Situation
-rowCountOut n w why = (why ≡ no.RowCount) × (¬ ((n ≤ mostRows) × (rowLength * n ≤ length w)))
+rowCountOut n w why = (why ≡ no.RowCount) × (¬ (RowsIn n w))
 
 -- 6
 abbrev pub rowInvalid : ℕ → List Row → Situation

@@ -6,11 +6,10 @@ use meaning::MOST_ROWS;
 use meaning::Refusal;
 ghost use mathlib.Core.Path.{_≡_};
 ghost use mathlib.Core.List.{map};
-ghost use Prim.Native.Nat.{_+_, _*_, _≤_};
+ghost use Prim.Native.Nat.{_+_, _≤_};
 ghost use lib.ListN.{length};
 ghost use Rattle.meaning.specs.Basics.{over, overAt};
-ghost use Rattle.meaning.specs.Limits.{mostRows};
-ghost use Rattle.meaning.specs.Graph.{rowLength, rows, values};
+ghost use Rattle.meaning.specs.Graph.{RowsIn, rows, values};
 ghost use Rattle.meaning.specs.Widths.{rowWidth, outputWidth};
 ghost use Rattle.meaning.specs.Refusals.{Done, measured, widthsWritten};
 
@@ -28,7 +27,7 @@ fn each_width(values: &[u32], input: u32, out: &mut [u32])
 
 // The same of the rows in a slice.
 fn row_widths(words: &[u32], n: usize, input: u32, out: &mut [u32])
-    requires { ⌜ ((input ≤ 32) × ((n ≤ mostRows) × (rowLength * n ≤ length (now words)))) × (n ≤ length (now out)) ⌝ }
+    requires { ⌜ ((input ≤ 32) × RowsIn n (now words)) × (n ≤ length (now out)) ⌝ }
     ensures { λ _. ⌜ now (out .exit) ≡ over (map (rowWidth input) (values (rows n (now (words .entry))))) (now (out .entry)) ⌝ }
 {
     let mut values = [0u32; MOST_ROWS];

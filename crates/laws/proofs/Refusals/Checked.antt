@@ -1,16 +1,16 @@
 -- What acceptance by the check means: both ways. Assumes nothing.
 use mathlib.Core.Path.{_≡_}
 use mathlib.Core.List.{List, [], List·Memᴰ}
-use Prim.Native.Nat.{ℕ, _*_, _^_, _≤_, _<_}
+use Prim.Native.Nat.{ℕ, _^_, _≤_, _<_}
 use native.Mathlib.Omega.{arith}
 use lib.Dec.{T, ltb, leb→le, le→leb, ltb→lt, lt→ltb}
 use lib.IntN.{ℤ}
 use lib.ListN.{length}
 use Rattle.meaning.specs.declared.Answer.the-variants.{Accepted}
 use Rattle.meaning.specs.declared.Refusal.the-variants as no
-use Rattle.meaning.specs.Limits.{between, bitTests, limit, mostTargets, mostRows, widthTests}
+use Rattle.meaning.specs.Limits.{between, bitTests, limit, mostTargets, widthTests}
 use Rattle.meaning.specs.Constants.{oddOf}
-use Rattle.meaning.specs.Graph.{rowLength, rowTests, rows, values, Sound, served?}
+use Rattle.meaning.specs.Graph.{RowsIn, rowTests, rows, values, Sound, served?}
 use Rattle.meaning.specs.Refusals.{admitOrder, checkOrder, admitted, checked, sizedOrder, sized}
 use Rattle.laws.proofs.Refusals.Stages.{first-accepts, all-accept, need-accepts, of-need}
 use Rattle.laws.proofs.Refusals.Members.{each-accepts, of-each, pass-in, in-pass}
@@ -25,7 +25,7 @@ pub record Admitted (b : ℕ) (ts : List ℤ) : Type 0 where
 -- a graph that is not refused
 pub record Good (b : ℕ) (ts : List ℤ) (n : ℕ) (w : List ℕ) : Type 0 where
   pub admits : Admitted b ts
-  pub room : (n ≤ mostRows) × (rowLength * n ≤ length w)
+  pub room : RowsIn n w
   pub sound : Sound (limit b) [] (rows n w)
   pub serves : (t : ℤ) → List·Memᴰ t ts → T (served? (values (rows n w)) t)
 

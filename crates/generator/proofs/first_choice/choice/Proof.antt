@@ -50,10 +50,10 @@ returns-3 c =
     let m = n .before .size-of .result in
     let st = n .before .before in
     let a = st .args in
-    let (q, h1, h2, h3, h4) = st .pre in
+    let (t, h) = st .pre in
     ap (λ r. At (record { u = a .p .i; v = a .p .j; l1 = a .l1; l2 = a .l2; s = a .s; r = r })) (counts n)
-    ∙ choice-hit (a .p) (a .l1) (a .l2) (a .s) m (n .before .size-of .ensures) h1 h2 h3 h4 (positive n)
-    (ap (λ k. m / 2 ^ k) (sym (counts n)) ∙ c .if2 .left) (q .below)
+    ∙ choice-hit (a .p) (a .l1) (a .l2) (a .s) m (n .before .size-of .ensures) (t .left) (t .right) (t .unshifted) h (positive n)
+    (ap (λ k. m / 2 ^ k) (sym (counts n)) ∙ c .if2 .left) (t .sought .below)
 
 pub choice-spec : {M : Type 1} → statement M
 choice-spec =
