@@ -7,7 +7,7 @@ use native.Mathlib.Nat.{zero-div, div-le-self}
 use native.Mathlib.Omega.{arith}
 use borrow.Author.Tests.{eqb-true, eqb-false}
 use lib.Dec.{eqb}
-use lib.ListN.{length, drop, getD, set, replicate, length-append, length-set, length-replicate, List·getD-append}
+use lib.ListN.{length, drop, getD, set, replicate, length-append, length-set, List·getD-append}
 use lib.Seq.{lt-length-set, drop-cons, drop-set-lt, getD-set-same, append-snoc}
 use Rattle.meaning.specs.declared.Prefix.{Prefix}
 use Rattle.meaning.specs.Basics.{zeros}
@@ -144,10 +144,6 @@ fill-end n left at count list f z k =
     rw (k, all)
 
 -- ---- what a caller reads of the array
-
-pub held-length : (n : ℕ) → n < 2 ^ 32 → length (held (prefixes n)) ≡ 16
-unfolding held
-held-length n h = simp (length-append, length-replicate) (omega (arith, held-count n h))
 
 pub held-at : (n i : ℕ) (d : Prefix) → i < length (prefixes n) → getD (held (prefixes n)) i d ≡ getD (prefixes n) i d
 unfolding held

@@ -6,9 +6,9 @@ use Prim.Native.Nat.{ℕ}
 use lib.ListN.{length}
 use Rattle.meaning.specs.Basics.{has}
 use Rattle.meaning.specs.Operation.{Odd}
-use Rattle.search.specs.Marks.{Ready}
+use Rattle.search.specs.Marks.{OddsIn}
 
 pub record Away (L : ℕ) (vals : List ℕ) (c : ℕ) : Type 0 where
-  pub ready : Ready L vals (length vals)
+  pub ready : OddsIn L vals (length vals)
   pub odd : Odd L c
   pub absent : has vals c ≡ false

@@ -10,12 +10,12 @@ ghost use Prim.Native.Nat.{_≤_};
 ghost use lib.ListN.{length};
 ghost use Rattle.meaning.specs.Distance.{distance as Distance·distance};
 ghost use Rattle.meaning.specs.Refusals.{distanceTold};
-ghost use Rattle.search.specs.Marks.{longLimit, Ready, State};
+ghost use Rattle.search.specs.Marks.{longLimit, OddsIn, State};
 ghost use Rattle.distance.specs.Away.{Away};
 
 // The map of what one operation on the values reaches.
 fn fill(map: &mut [u8], limit: u32, vals: &[u32])
-    requires { ⌜ State limit (now map) (now vals) 0 × Ready limit (now vals) (length (now vals)) ⌝ }
+    requires { ⌜ State limit (now map) (now vals) 0 × OddsIn limit (now vals) (length (now vals)) ⌝ }
     ensures { λ _. ⌜ State limit (now (map .exit)) (now (vals .entry)) (length (now (vals .entry))) ⌝ }
 {
     let mut n = 0;

@@ -1,5 +1,7 @@
 // The refusals of the distance call: the bit limit, the ready list and the target.
 use meaning::Answer;
+use meaning::LEAST_BITS;
+use meaning::MOST_BITS;
 use meaning::MOST_READY;
 use meaning::Refusal;
 ghost use mathlib.Core.Path.{_≡_};
@@ -41,7 +43,7 @@ fn ready_values(b: u32, vals: &[u32]) -> Answer
 pub fn admit(b: u32, vals: &[u32], c: u32) -> Answer
     ensures { λ r. ⌜ r ≡ firstOf (distanceOrder b (now (vals .entry)) c) ⌝ }
 {
-    if !arith::within(b as usize, 2, 16) {
+    if !arith::within(b as usize, LEAST_BITS, MOST_BITS) {
         return Answer::Refused(Refusal::Bits);
     }
     if !arith::within(vals.len(), 1, MOST_READY) {

@@ -17,7 +17,7 @@ use Rattle.laws.proofs.Graph.Rows.{length-flat, flat-append, ready-append, rows
 use Rattle.laws.proofs.Generator.Steps.{rule-c-ready, rule-c-row, rule-c-end}
 use Rattle.laws.proofs.Lists.Over.{length-over-at, over-at-part, over-at-none}
 use Rattle.search.specs.declared.ready.Ready.{Ready}
-use Rattle.search.specs.Listed.{listed, grown, Added}
+use Rattle.search.specs.Held.{listed, grown, Added}
 use Rattle.search.proofs.ReadyLaws.{grown-room}
 use Rattle.meaning.specs.Operation.{Odd}
 use Rattle.search.specs.Marks.{Holds, State}

@@ -10,7 +10,7 @@ use Rattle.meaning.specs.Basics.{over, overAt}
 use Rattle.meaning.specs.Graph.{rowLength, rows, flat, ready}
 use Rattle.meaning.specs.Generator.{remaining, added, Draft, turn, turns}
 use Rattle.search.specs.declared.ready.Ready.{Ready}
-use Rattle.search.specs.Listed.{listed, Started}
+use Rattle.search.specs.Held.{listed, Started}
 use Rattle.search.specs.Marks.{State, Holds, Wide}
 use Rattle.generator.specs.Growth.{drawnRows, Open, Grown}
 use Rattle.generator.specs.Rule.{turned}

@@ -13,7 +13,7 @@ use Rattle.meaning.specs.Graph.{rowLength, rows, flat, values, ready}
 use Rattle.meaning.specs.Digits.{prefixes}
 use Rattle.meaning.specs.Generator.{prefixRow}
 use Rattle.search.specs.declared.ready.Ready.{Ready}
-use Rattle.search.specs.Listed.{listed, grown, Fit}
+use Rattle.search.specs.Held.{listed, grown, Fit}
 use Rattle.meaning.specs.Operation.{Odd}
 use Rattle.search.specs.Marks.{State}
 

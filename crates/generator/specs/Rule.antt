@@ -13,7 +13,7 @@ use Rattle.meaning.specs.Generator.{rowFor, ruleB, added, turns}
 use Rattle.constants.specs.declared.wanted.Wanted.{Wanted}
 use Rattle.constants.specs.Held.{kept}
 use Rattle.search.specs.declared.ready.Ready.{Ready}
-use Rattle.search.specs.Listed.{listed}
+use Rattle.search.specs.Held.{listed}
 use Rattle.meaning.specs.Operation.{Odd}
 use Rattle.search.specs.Marks.{marked, longLimit, State}
 use Rattle.generator.specs.Growth.{Servable, atMostOne, drawnRows, Open}

@@ -19,7 +19,7 @@ found none = Missing
 found (some x) = At x
 
 -- what may be asked: the first n of the values are odd and below 2 ^ L, and so is the constant c; L has room for guard bits
-pub record Asked (L : ℕ) (vals : List ℕ) (n c : ℕ) : Type 0 where
+pub record Searchable (L : ℕ) (vals : List ℕ) (n c : ℕ) : Type 0 where
   pub limit : L ≤ mostLimit
   pub few : n ≤ mostReady
   pub inside : n ≤ length vals

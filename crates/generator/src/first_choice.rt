@@ -7,7 +7,7 @@ ghost use lib.ListN.{take};
 ghost use Rattle.meaning.specs.Limits.{mostLimit};
 ghost use Rattle.meaning.specs.Operation.{size};
 ghost use Rattle.meaning.specs.Generator.{choiceFor};
-ghost use Rattle.generator.specs.Search.{found, Sought, Asked, Tried, choiceOf, signChoice, rightChoice, leftChoice, pairChoice, fromChoice};
+ghost use Rattle.generator.specs.Search.{found, Sought, Searchable, Tried, choiceOf, signChoice, rightChoice, leftChoice, pairChoice, fromChoice};
 
 pub enum Found {
     At(Choice),
@@ -118,7 +118,7 @@ fn pair_choice(p: Pair) -> Found
 
 // The u index is i.
 fn choice_from(limit: u32, ready: &[u32], n: usize, i: usize, c: u32) -> Found
-    requires { ⌜ Asked limit (now ready) n c × (i < n) ⌝ }
+    requires { ⌜ Searchable limit (now ready) n c × (i < n) ⌝ }
     ensures { λ r. ⌜ r ≡ found (fromChoice limit (take n (now (ready .entry))) c i) ⌝ }
 {
     let mut j = i;
@@ -140,7 +140,7 @@ fn choice_from(limit: u32, ready: &[u32], n: usize, i: usize, c: u32) -> Found
 }
 
 pub fn choice_for(limit: u32, ready: &[u32], n: usize, c: u32) -> Found
-    requires { ⌜ Asked limit (now ready) n c ⌝ }
+    requires { ⌜ Searchable limit (now ready) n c ⌝ }
     ensures { λ r. ⌜ r ≡ found (choiceFor limit (take n (now (ready .entry))) c) ⌝ }
 {
     let mut i = 0;

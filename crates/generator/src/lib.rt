@@ -22,7 +22,7 @@ ghost use Rattle.meaning.specs.Basics.{over};
 ghost use Rattle.meaning.specs.Limits.{limit as Limits·limit, mostTargets, mostRows};
 ghost use Rattle.meaning.specs.Graph.{rowLength, flat};
 ghost use Rattle.meaning.specs.Refusals.{admitted, Done, drawnTold, rowsWritten};
-ghost use Rattle.search.specs.Listed.{Started};
+ghost use Rattle.search.specs.Held.{Started};
 ghost use Rattle.search.specs.Marks.{State};
 ghost use Rattle.generator.specs.Rule.{turned, Drawable};
 

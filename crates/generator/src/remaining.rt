@@ -7,7 +7,7 @@ ghost use Prim.Native.Nat.{_≤_};
 ghost use Rattle.meaning.specs.Limits.{mostTargets};
 ghost use Rattle.meaning.specs.Generator.{remaining};
 ghost use Rattle.constants.specs.Held.{wantedHeld, kept};
-ghost use Rattle.search.specs.Listed.{listed};
+ghost use Rattle.search.specs.Held.{listed};
 
 // The wanted constants that are not ready.
 pub fn left(set: Ready, w: Wanted) -> Wanted

@@ -8,7 +8,7 @@ ghost use Rattle.constants.specs.Held.{kept};
 ghost use Rattle.meaning.specs.Limits.{mostTargets};
 ghost use Rattle.meaning.specs.Graph.{ready};
 ghost use Rattle.meaning.specs.Generator.{added};
-ghost use Rattle.search.specs.Listed.{listed};
+ghost use Rattle.search.specs.Held.{listed};
 ghost use Rattle.generator.specs.Growth.{drawnRows, Grown};
 ghost use Rattle.generator.specs.Rule.{firstMarked, Pickable, Picked, Turning};
 

@@ -2,7 +2,9 @@
 mod valid_row;
 
 use meaning::Answer;
+use meaning::LEAST_WIDTH;
 use meaning::MOST_ROWS;
+use meaning::MOST_WIDTH;
 use meaning::Refusal;
 ghost use mathlib.Core.Path.{_≡_};
 ghost use mathlib.Core.Bool.{_||_};
@@ -94,7 +96,7 @@ pub fn check_width(b: u32, ts: &[i32], n: usize, words: &[u32], input: u32) -> A
     let Answer::Accepted = checked else {
         return checked;
     };
-    if !arith::within(input as usize, 2, 32) {
+    if !arith::within(input as usize, LEAST_WIDTH, MOST_WIDTH) {
         return Answer::Refused(Refusal::Width);
     }
     checked

@@ -17,7 +17,7 @@ use Rattle.meaning.specs.declared.Read.{Read}
 use Rattle.meaning.specs.declared.Read.the-variants.{Number, Bad}
 use Rattle.meaning.specs.Text.{bytes, stands, numberAt}
 use Rattle.meaning.specs.Forms.{Line, good, bad, onRead, front, lineAt, bitsForm, inputForm}
-use Rattle.meaning.specs.Job.{Asked, Job, asks, malformed, next, only, reportLine, numbers, targetsLine, jobOf}
+use Rattle.meaning.specs.Job.{mostBytes, mostJobTargets, Asked, Job, asks, malformed, next, only, reportLine, numbers, targetsLine, jobOf}
 use Rattle.laws.proofs.Text.Numerals.{number-read}
 use Rattle.laws.proofs.Text.Bytes.{stands-within}
 use Rattle.job.specs.declared.Asks.the-variants.{Wants, Malformed}
@@ -110,10 +110,10 @@ next-job (good a p) line k e = (a, p, refl, e)
 next-job bad line k e = no-job e
 
 record Fits (j : Asked) : Type 0 where
-  few : length (j .targets) ≤ 128
+  few : length (j .targets) ≤ mostJobTargets
   targets : (k : ℕ) → SFits w32 (getD (j .targets) k (pos 0))
 
-fits-by : (s : List ℕ) (h : Head) (ts : List ℤ) (at to : ℕ) (j : Asked) → length s ≤ 256 → targetsLine s at ≡ good ts to
+fits-by : (s : List ℕ) (h : Head) (ts : List ℤ) (at to : ℕ) (j : Asked) → length s ≤ mostBytes → targetsLine s at ≡ good ts to
     → asks (record { head = h; targets = ts }) ≡ asks j → Fits j
 fits-by s h ts at to j l m e =
     let n = run-line s at ts to m in
@@ -125,16 +125,16 @@ fits-by s h ts at to j l m e =
 fits-of : (s : List ℕ) (j : Asked) → jobOf s ≡ asks j → Fits j
 unfolding jobOf
 fits-of s j e =
-    let (h, e0) = cond-job (leb (length s) 256) _ 0 e in
+    let (h, e0) = cond-job (leb (length s) mostBytes) _ 0 e in
     let (b, p1, l1, e1) = next-job (only (lineAt bitsForm s 0)) 1 _ e0 in
     let (w, p2, l2, e2) = next-job (only (lineAt inputForm s p1)) 2 _ e1 in
     let (r, p3, l3, e3) = next-job (reportLine s p2) 3 _ e2 in
     let (ts, p4, l4, e4) = next-job (targetsLine s p3) 4 _ e3 in
     let (f, e5) = cond-job (eqb p4 (length s)) (asks (record { head = record { bits = b; input = w; «by_width» = r }; targets = ts })) 5 e4 in
-    fits-by s (record { bits = b; input = w; «by_width» = r }) ts p3 p4 j (leb-true (length s) 256 h) l4 e5
+    fits-by s (record { bits = b; input = w; «by_width» = r }) ts p3 p4 j (leb-true (length s) mostBytes h) l4 e5
 
 module _ (s : List ℕ) (j : Asked) (e : jobOf s ≡ asks j) where
-  pub most-targets : length (j .targets) ≤ 128
+  pub most-targets : length (j .targets) ≤ mostJobTargets
   most-targets = fits-of s j e .few
 
   pub kept-targets : take (length (j .targets)) (sets noTargets 0 (j .targets)) ≡ j .targets

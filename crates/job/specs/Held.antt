@@ -8,7 +8,7 @@ use lib.Seq.{sets}
 use Rattle.meaning.specs.declared.Read.{Read}
 use Rattle.meaning.specs.declared.Read.the-variants.{Number, Bad}
 use Rattle.meaning.specs.Forms.{Line, good, bad}
-use Rattle.meaning.specs.Job.{Job, asks, malformed}
+use Rattle.meaning.specs.Job.{mostJobTargets, Job, asks, malformed}
 use Rattle.job.specs.declared.Order.{Order}
 use Rattle.job.specs.declared.Order.the-variants.{By, Neither}
 use Rattle.job.specs.declared.Counted.the-variants.{Listed, Unlisted}
@@ -24,9 +24,9 @@ unfoldable pub orderOf : Line Bool → Order
 orderOf (good b p) = By b p
 orderOf bad = Neither
 
--- as many places as a job of 256 bytes can have targets
+-- as many places as a job can have targets
 abbrev pub noTargets : List ℤ
-noTargets = replicate 128 (pos 0)
+noTargets = replicate mostJobTargets (pos 0)
 
 -- after n targets, kept in values: all are counted, and those that have a place are kept
 unfoldable pub targetsOf : ℕ → List ℤ → Line (List ℤ) → Targets

@@ -1,5 +1,9 @@
 // The job: its text, read line by line.
+use meaning::BITS_FORM;
+use meaning::BY_ROW;
+use meaning::BY_WIDTH;
 use meaning::Head;
+use meaning::INPUT_FORM;
 use meaning::JOB_BYTES;
 use meaning::JOB_TARGETS;
 use meaning::Read;
@@ -32,10 +36,10 @@ enum Order {
 fn report_line(s: &[u8], at: usize) -> Order
     ensures { λ r. ⌜ r ≡ orderOf (reportLine (now (s .entry)) at) ⌝ }
 {
-    if text::stands(s, at, b"report=width\n") {
+    if text::stands(s, at, &BY_WIDTH) {
         return Order::By(true, at + 13);
     }
-    if text::stands(s, at, b"report=row\n") {
+    if text::stands(s, at, &BY_ROW) {
         return Order::By(false, at + 11);
     }
     Order::Neither
@@ -138,10 +142,10 @@ pub fn parse(s: &[u8]) -> Parsed
     if s.len() > JOB_BYTES {
         return malformed(0);
     }
-    let Read::Number(bits, at) = number_line(s, 0, b"bits=#\n") else {
+    let Read::Number(bits, at) = number_line(s, 0, &BITS_FORM) else {
         return malformed(1);
     };
-    let Read::Number(input, at) = number_line(s, at, b"input=#\n") else {
+    let Read::Number(input, at) = number_line(s, at, &INPUT_FORM) else {
         return malformed(2);
     };
     let Order::By(by_width, at) = report_line(s, at) else {

@@ -15,7 +15,7 @@ use Rattle.meaning.specs.Constants.{wanted}
 use Rattle.meaning.specs.Digits.{cost, csdSum}
 use Rattle.meaning.specs.Forms.{linesOf, rowForm, outForm}
 use Rattle.meaning.specs.Graph.{rowLength, rows, values}
-use Rattle.meaning.specs.Listing.{headText, rowOrder, rowOf, rowNumbers, rowsBy, outNumbers, outsFrom, graphIn, listingOf}
+use Rattle.meaning.specs.Listing.{headText, rowOrder, nthRow, rowNumbers, rowsBy, outNumbers, outsFrom, graphIn, listingOf}
 use Rattle.laws.proofs.Lists.Index.{getD-in}
 use Rattle.laws.proofs.Graph.Rows.{length-rows, length-values}
 use Rattle.laws.proofs.Text.Listings.{order-length, order-in}
@@ -66,8 +66,8 @@ module _ (w : ℤ) (xs : List Row) (order : List ℕ) where
   pub rows-length : length (rowsBy w xs order) ≡ length order
   rows-length = length-map order _
 
-  pub rows-at : (k : ℕ) → k < length order → getD (rowsBy w xs order) k [] ≡ rowNumbers w (getD order k 0) (rowOf xs (getD order k 0))
-  rows-at k h = at-map (λ i. rowNumbers w i (rowOf xs i)) order k 0 [] h
+  pub rows-at : (k : ℕ) → k < length order → getD (rowsBy w xs order) k [] ≡ rowNumbers w (getD order k 0) (nthRow xs (getD order k 0))
+  rows-at k h = at-map (λ i. rowNumbers w i (nthRow xs i)) order k 0 [] h
 
 module _ (w : ℤ) (vals : List ℕ) where
   outs-long : (j : ℕ) (ts : List ℤ) → length (outsFrom w vals j ts) ≡ length ts

@@ -1,5 +1,9 @@
 // The lines above the rows.
+use meaning::BITS_FORM;
+use meaning::BY_ROW;
+use meaning::BY_WIDTH;
 use meaning::Head;
+use meaning::INPUT_FORM;
 use writing::put_line;
 ghost use mathlib.Core.Path.{_≡_};
 ghost use mathlib.Core.List.{[], _∷_};
@@ -7,9 +11,9 @@ ghost use Prim.Native.Nat.{_+_, _≤_, _<_};
 ghost use lib.ListN.{length};
 ghost use Rattle.meaning.specs.Constants.{wanted};
 ghost use Rattle.meaning.specs.Digits.{cost as Digits·cost, csdSum};
-ghost use Rattle.meaning.specs.Forms.{lineOf};
+ghost use Rattle.meaning.specs.Forms.{reportText, lineOf};
 ghost use Rattle.meaning.specs.Limits.{mostRows, mostTargets};
-ghost use Rattle.meaning.specs.Listing.{reportText, headText};
+ghost use Rattle.meaning.specs.Listing.{headText};
 ghost use Rattle.writing.specs.Wrote.{Wrote};
 
 // A wanted constant's nonzero digits less one.
@@ -58,9 +62,9 @@ fn report(out: &mut [u8], at: usize, by_width: bool) -> usize
     ensures { λ r. ⌜ Wrote (now (out .entry)) at (reportText «by_width») (now (out .exit)) r ⌝ }
 {
     if by_width {
-        return plain_line(out, at, b"report=width\n");
+        return plain_line(out, at, &BY_WIDTH);
     }
-    plain_line(out, at, b"report=row\n")
+    plain_line(out, at, &BY_ROW)
 }
 
 // All five, of a graph of some adders and a list of some sum.
@@ -68,8 +72,8 @@ pub fn head_lines(out: &mut [u8], head: Head, adders: usize, csd: u32) -> usize
     requires { ⌜ (adders ≤ mostRows) × (length (headText head adders csd) ≤ length (now out)) ⌝ }
     ensures { λ r. ⌜ Wrote (now (out .entry)) 0 (headText head adders csd) (now (out .exit)) r ⌝ }
 {
-    let at = number_line(out, 0, b"bits=#\n", head.bits as i64);
-    let at = number_line(out, at, b"input=#\n", head.input as i64);
+    let at = number_line(out, 0, &BITS_FORM, head.bits as i64);
+    let at = number_line(out, at, &INPUT_FORM, head.input as i64);
     let at = report(out, at, head.by_width);
     let at = number_line(out, at, b"adders=#\n", adders as i64);
     number_line(out, at, b"csd=#\n", csd as i64)

@@ -1,6 +1,6 @@
 -- Lines by their forms. A form is a text in which each # stands for a number, so that a line stands once for its writer and its reader.
 -- Assumes nothing.
-use mathlib.Core.Bool.{cond}
+use mathlib.Core.Bool.{Bool, cond}
 use mathlib.Core.List.{List, [], _∷_, _++_}
 use Prim.Native.Nat.{ℕ, _+_}
 use lib.Dec.{eqb}
@@ -65,6 +65,10 @@ bitsForm = bytes "bits=#\n"
 
 abbrev pub inputForm : List ℕ
 inputForm = bytes "input=#\n"
+
+-- the order of the row lines
+abbrev pub reportText : Bool → List ℕ
+reportText byWidth = cond byWidth (bytes "report=width\n") (bytes "report=row\n")
 
 -- the row count
 abbrev pub addersForm : List ℕ

@@ -9,7 +9,7 @@ use Rattle.meaning.specs.declared.Answer.{Answer}
 use Rattle.meaning.specs.declared.Head.{Head}
 use Rattle.meaning.specs.declared.Row.{Row}
 use Rattle.meaning.specs.Text.{bytes, stands, numberAt}
-use Rattle.meaning.specs.Forms.{Line, good, bad, onRead, front, lineAt, bitsForm, inputForm}
+use Rattle.meaning.specs.Forms.{Line, good, bad, onRead, front, lineAt, bitsForm, inputForm, reportText}
 use Rattle.meaning.specs.Generator.{generated}
 use Rattle.meaning.specs.Refusals.{admitOrder, fewRows, inputWidth}
 
@@ -26,6 +26,10 @@ pub data Job : Type 0 where
 abbrev pub mostBytes : ℕ
 mostBytes = 256
 
+-- each target takes two of them
+abbrev pub mostJobTargets : ℕ
+mostJobTargets = 128
+
 -- ---- the lines
 
 -- the only number of a line
@@ -36,8 +40,8 @@ only bad = bad
 -- one of two whole lines
 unfoldable pub reportLine : List ℕ → ℕ → Line Bool
 reportLine s at =
-    cond (stands (bytes "report=width\n") s at) (good true (at + 13))
-    (cond (stands (bytes "report=row\n") s at) (good false (at + 11)) bad)
+    cond (stands (reportText true) s at) (good true (at + length (reportText true)))
+    (cond (stands (reportText false) s at) (good false (at + length (reportText false))) bad)
 
 -- one or more numbers, joined by commas, and a line feed; no more of them than the first number says
 unfoldable pub numbers : ℕ → List ℕ → ℕ → Line (List ℤ)

@@ -21,7 +21,7 @@ use Rattle.meaning.specs.Graph.{words, rowAt, rows, values, outputIndex}
 use Rattle.meaning.specs.Widths.{rowWidth, outputWidth, ranking}
 use Rattle.meaning.specs.Refusals.{number, placeOf, firstOf}
 use Rattle.meaning.specs.Text.{bytes}
-use Rattle.meaning.specs.Forms.{lineOf, linesOf, bitsForm, inputForm, addersForm, csdForm, rowForm, outForm, refusedForm}
+use Rattle.meaning.specs.Forms.{lineOf, linesOf, bitsForm, inputForm, reportText, addersForm, csdForm, rowForm, outForm, refusedForm}
 use Rattle.meaning.specs.Job.{Asked, Job, asks, malformed, jobOf, jobOrder, rowsOf}
 
 -- what a listing lists: any rows, and any targets
@@ -29,9 +29,6 @@ pub record Listed : Type 0 where
   pub head : Head
   pub rows : List Row
   pub targets : List ℤ
-
-abbrev pub reportText : Bool → List ℕ
-reportText byWidth = cond byWidth (bytes "report=width\n") (bytes "report=row\n")
 
 -- the five lines above the rows: `adders` is the row count, `csd` condition 3's sum
 unfoldable pub headText : Head → ℕ → ℕ → List ℕ
@@ -47,8 +44,8 @@ abbrev pub rowOrder : Bool → List ℕ → List ℕ
 rowOrder byWidth vals = cond byWidth (ranking 0 vals) (upFrom 1 (length vals))
 
 -- row i, from 1
-abbrev pub rowOf : List Row → ℕ → Row
-rowOf xs i = getD xs (i - 1) (rowAt [] 0)
+abbrev pub nthRow : List Row → ℕ → Row
+nthRow xs i = getD xs (i - 1) (rowAt [] 0)
 
 -- of a row as row i
 unfoldable pub rowNumbers : ℤ → ℕ → Row → List ℤ
@@ -56,7 +53,7 @@ rowNumbers w i x = pos i ∷ (map pos (words x) ++ ((w +ℤ pos (rowWidth 0 (x .
 
 -- of the rows in an order
 abbrev pub rowsBy : ℤ → List Row → List ℕ → List (List ℤ)
-rowsBy w xs order = map (λ i. rowNumbers w i (rowOf xs i)) order
+rowsBy w xs order = map (λ i. rowNumbers w i (nthRow xs i)) order
 
 -- an output's width: for a zero target it is 1
 abbrev pub outWidth : ℤ → ℤ → ℤ

@@ -15,6 +15,15 @@ pub enum Operated {
     Invalid,
 }
 
+// The ranges of the bit limit and of the input width (specs/Limits.antt).
+pub const LEAST_BITS: usize = 2;
+
+pub const MOST_BITS: usize = 16;
+
+pub const LEAST_WIDTH: usize = 2;
+
+pub const MOST_WIDTH: usize = 32;
+
 // How many targets a list has, and how many rows a graph, at most (specs/Limits.antt).
 pub const MOST_TARGETS: usize = 16;
 
@@ -141,6 +150,15 @@ pub struct Head {
     pub input: i32,
     pub by_width: bool,
 }
+
+// The lines that a job and a listing share (specs/Forms.antt).
+pub const BITS_FORM: [u8; 7] = *b"bits=#\n";
+
+pub const INPUT_FORM: [u8; 8] = *b"input=#\n";
+
+pub const BY_WIDTH: [u8; 13] = *b"report=width\n";
+
+pub const BY_ROW: [u8; 11] = *b"report=row\n";
 
 // How many bytes a job may have; each of its targets takes two of them.
 pub const JOB_BYTES: usize = 256;

@@ -1,4 +1,6 @@
 // The operation: n, r and value of one choice of operands, shifts and sign.
+use meaning::LEAST_BITS;
+use meaning::MOST_BITS;
 use meaning::Operated;
 ghost use mathlib.Core.Path.{_≡_};
 ghost use mathlib.Core.List.{[], _∷_};
@@ -78,7 +80,7 @@ fn made(limit: u32, u: u32, v: u32, l1: u32, l2: u32, s: u32) -> Operated
 pub fn operate(b: u32, u: u32, v: u32, l1: u32, l2: u32, s: u32) -> Operated
     ensures { λ r. ⌜ r ≡ operatedUnder b u v l1 l2 s ⌝ }
 {
-    if !arith::within(b as usize, 2, 16) {
+    if !arith::within(b as usize, LEAST_BITS, MOST_BITS) {
         return Operated::Invalid;
     }
     let limit = arith::limit(b);

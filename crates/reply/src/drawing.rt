@@ -2,6 +2,8 @@
 use meaning::Drawn;
 use meaning::FULL_LENGTH;
 use meaning::Head;
+use meaning::LEAST_WIDTH;
+use meaning::MOST_WIDTH;
 use meaning::Refusal;
 ghost use mathlib.Core.Path.{_≡_};
 ghost use Prim.Native.Nat.{_≤_};
@@ -37,7 +39,7 @@ fn sized(out: &mut [u8], head: Head, ts: &[i32], words: &[u32], n: usize) -> usi
     requires { ⌜ (textRoom ≤ length (now out)) × Narrow (now ts) × Drawing (bitsOf head) (now ts) (now words) n ⌝ }
     ensures { λ r. ⌜ Wrote (now (out .entry)) 0 (replyTo (record { head = head; targets = now (ts .entry) })) (now (out .exit)) r ⌝ }
 {
-    if !arith::within(natural(head.input) as usize, 2, 32) {
+    if !arith::within(natural(head.input) as usize, LEAST_WIDTH, MOST_WIDTH) {
         return refused(out, Refusal::Width);
     }
     listing::write(out, head, ts, words, n)

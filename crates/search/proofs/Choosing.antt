@@ -18,7 +18,7 @@ use Rattle.laws.proofs.Distance.Reach.{reach-is, reached-odd}
 use Rattle.laws.proofs.Lists.First.{first-map}
 use Rattle.search.specs.Sides.{with?, twice?}
 use Rattle.meaning.specs.Operation.{Odd}
-use Rattle.search.specs.Marks.{marked, Ready, State}
+use Rattle.search.specs.Marks.{marked, OddsIn, State}
 use Rattle.search.proofs.Marks.{reached-is}
 use Rattle.search.proofs.Serves.{AllOdd, some-bits, serves-is}
 use Rattle.search.specs.declared.serving.Trials.the-variants.{At, Nothing}
@@ -35,7 +35,7 @@ mem-take [] (suc n) u i = absurd (List·Memᴰ·not-nil i)
 mem-take (x ∷ xs) (suc n) u i =
     ⊎-elim (λ e. (0, omega arith, e)) (λ j. let (k, h, e) = mem-take xs n u j in (suc k, omega arith, e)) (List·Memᴰ·cases-cons i)
 
-pub take-odd : (L : ℕ) (xs : List ℕ) (n : ℕ) → Ready L xs n → AllOdd L (take n xs)
+pub take-odd : (L : ℕ) (xs : List ℕ) (n : ℕ) → OddsIn L xs n → AllOdd L (take n xs)
 take-odd L xs n r u i =
     let (k, h, e) = mem-take xs n u i in
     let o = r .1 k h in

@@ -8,7 +8,7 @@ use lib.ListN.{length, getD, set, length-set, length-take}
 use lib.Seq.{getD-take, take-suc-set}
 use Rattle.meaning.specs.Limits.{mostReady}
 use Rattle.search.specs.declared.ready.Ready.{Ready}
-use Rattle.search.specs.Listed.{listed, started, grown, Started, Added}
+use Rattle.search.specs.Held.{listed, started, grown, Started, Added}
 
 -- ---- what is listed
 

@@ -5,7 +5,7 @@ use mathlib.Core.List.{List}
 use Prim.Native.Nat.{ℕ, _%_, _^_, _≤_, _<_}
 use lib.Dec.{T}
 use Rattle.meaning.specs.Operation.{Odd}
-use Rattle.search.specs.Marks.{marked, Wide, Ready}
+use Rattle.search.specs.Marks.{marked, Wide, OddsIn}
 
 -- the odd number s is not below low, is marked, and passes the test
 pub record Seen (map : List ℕ) (low : ℕ) (Q : ℕ → Bool) (s : ℕ) : Type 0 where
@@ -29,6 +29,6 @@ pub record Looking (L : ℕ) (map : List ℕ) (u v best : ℕ) : Type 0 where
 
 pub record LookingAll (L : ℕ) (map vals : List ℕ) (n c best : ℕ) : Type 0 where
   pub wide : Wide L map
-  pub ready : Ready L vals n
+  pub ready : OddsIn L vals n
   pub constant : Odd L c
   pub known : best ≤ 2 ^ L

@@ -1,6 +1,6 @@
 -- What the map holds.
 pub mod Sides
 pub mod Marks
-pub mod Listed
+pub mod Held
 pub mod Choices
 pub mod Least

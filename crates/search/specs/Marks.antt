@@ -42,11 +42,11 @@ abbrev pub longLimit : ℕ
 longLimit = 17
 
 -- the first n values are odd and below 2 ^ L
-abbrev pub Ready : ℕ → List ℕ → ℕ → Type 0
-Ready L vals n = (n ≤ length vals) × ((i : ℕ) → i < n → Odd L (getD vals i 0))
+abbrev pub OddsIn : ℕ → List ℕ → ℕ → Type 0
+OddsIn L vals n = (n ≤ length vals) × ((i : ℕ) → i < n → Odd L (getD vals i 0))
 
 -- the first n values are ready, and the map holds what one operation on them reaches
 pub record State (L : ℕ) (map vals : List ℕ) (n : ℕ) : Type 0 where
   pub wide : Wide L map
-  pub values : Ready L vals n
+  pub values : OddsIn L vals n
   pub reach : Holds map (λ c. reach? L (take n vals) c)

@@ -17,7 +17,7 @@ ghost use lib.ListN.{length, take};
 ghost use Rattle.meaning.specs.Distance.{oneOp?, reach?};
 ghost use Rattle.search.specs.Sides.{hits?, sideTo?, with?};
 ghost use Rattle.meaning.specs.Operation.{Odd};
-ghost use Rattle.search.specs.Marks.{Holds, Adds, marked, shortLimit, Wide, Ready, State};
+ghost use Rattle.search.specs.Marks.{Holds, Adds, marked, shortLimit, Wide, OddsIn, State};
 
 // n without its trailing zeros is marked, if that is below 2^limit.
 fn mark(map: &mut [u8], limit: u32, n: u64)
@@ -65,7 +65,7 @@ fn pair(map: &mut [u8], limit: u32, u: u32, v: u32)
 
 // All results of operations on v and each ready value are marked.
 fn with_each(map: &mut [u8], limit: u32, ready: &[u32], n: usize, v: u32)
-    requires { ⌜ Wide limit (now map) × Ready limit (now ready) n × Odd limit v ⌝ }
+    requires { ⌜ Wide limit (now map) × OddsIn limit (now ready) n × Odd limit v ⌝ }
     ensures { λ _. ⌜ Adds (now (map .entry)) (now (map .exit)) (λ c. with? limit v (take n (now (ready .entry))) c) ⌝ }
 {
     let mut i = 0;

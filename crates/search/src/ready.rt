@@ -2,7 +2,7 @@
 use meaning::MOST_READY;
 ghost use mathlib.Core.Path.{_≡_};
 ghost use Rattle.meaning.specs.Basics.{indexFrom};
-ghost use Rattle.search.specs.Listed.{listed, Started, Added};
+ghost use Rattle.search.specs.Held.{listed, Started, Added};
 
 // As many values as a full graph has indices; the places from `count` on hold no value of the set.
 pub struct Ready {

@@ -16,11 +16,11 @@ use Rattle.meaning.specs.Limits.{limit}
 use Rattle.meaning.specs.Refusals.{distanceTold}
 use Rattle.laws.proofs.Lists.Index.{getD-in}
 use Rattle.laws.proofs.Distance.Distances.{distance-told, distance-refused, Askable, askable-of}
-use Rattle.search.specs.Marks.{Ready}
+use Rattle.search.specs.Marks.{OddsIn}
 use Rattle.distance.proofs.distance.Statement.{statement}
 use Rattle.distance.proofs.distance.Tie as tie
 
-ready : (b : ℕ) (vals : List ℕ) (c : ℕ) → Askable b vals c → Ready (limit b) vals (length vals)
+ready : (b : ℕ) (vals : List ℕ) (c : ℕ) → Askable b vals c → OddsIn (limit b) vals (length vals)
 ready b vals c q = (omega arith, λ i h. q .values _ (getD-in vals i 0 h))
 
 zero-is : (L : ℕ) (vals : List ℕ) (c : ℕ) → has vals c ≡ true → Zero ≡ distance L vals c

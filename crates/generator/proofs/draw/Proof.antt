@@ -12,7 +12,7 @@ use Rattle.laws.proofs.Generator.Remaining.{remaining-in}
 use Rattle.constants.specs.Held.{kept}
 use Rattle.constants.proofs.Insertion.{held-list, held-count}
 use Rattle.generator.proofs.RemainingLaws.{few-left}
-use Rattle.search.specs.Listed.{listed}
+use Rattle.search.specs.Held.{listed}
 use Rattle.generator.specs.Growth.{drawnRows, Open, Grown}
 use Rattle.generator.specs.Rule.{AllServable}
 use Rattle.generator.proofs.Turns.{started-open, Turned, turned-start, turned-open, turned-more, turned-end, from-front}

@@ -12,7 +12,7 @@ use borrow.Author.Needs.{needs}
 use borrow.Author.Tests.{not-true, not-false}
 use Rattle.meaning.specs.declared.Read.the-variants.{Number}
 use Rattle.meaning.specs.Text.{bytes, numberAt}
-use Rattle.meaning.specs.Job.{numbers}
+use Rattle.meaning.specs.Job.{mostJobTargets, numbers}
 use Rattle.laws.proofs.Text.Numerals.{number-read}
 use Rattle.laws.proofs.Text.Bytes.{stands-within}
 use Rattle.job.specs.Held.{targetsOf, noTargets}
@@ -22,7 +22,7 @@ use Rattle.job.proofs.numbers.Tie as tie
 
 abbrev Inv-loop : tie.InvT-loop
 Inv-loop s from at₀ n₀ values₀ at n values =
-    (n ≤ at) × (length values ≡ 128)
+    (n ≤ at) × (length values ≡ mostJobTargets)
     × (targetsOf 0 noTargets (numbers (length s) s from) ≡ targetsOf n values (numbers (length s - n) s at))
 
 abbrev μ-loop : tie.MeasureT-loop

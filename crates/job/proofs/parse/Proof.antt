@@ -10,7 +10,7 @@ use mir.ValLaws.{toZ-ofZ}
 use borrow.Author.Needs.{needs}
 use borrow.Author.Tests.{le-leb, lt-leb}
 use Rattle.meaning.specs.Forms.{good, lineAt, bitsForm, inputForm}
-use Rattle.meaning.specs.Job.{jobOf, only, reportLine}
+use Rattle.meaning.specs.Job.{mostBytes, jobOf, only, reportLine}
 use Rattle.job.specs.Held.{parsedOf}
 use Rattle.job.proofs.Lines.{read-good, read-bad, order-good, order-bad, targets-none, targets-more, targets-all}
 use Rattle.job.proofs.parse.Statement.{statement}
@@ -29,7 +29,7 @@ second c = c .before .before .before .before
 abbrev source : tie.Else1 → List ℕ
 source c = c .before .before .args .s .now
 
-short : (c : tie.Else1) → leb (length (source c)) 256 ≡ true
+short : (c : tie.Else1) → leb (length (source c)) mostBytes ≡ true
 short c = le-leb _ _ (c .if1 .left)
 
 -- what the three lines say

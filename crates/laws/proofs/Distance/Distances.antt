@@ -23,7 +23,7 @@ use Rattle.laws.proofs.Lists.Tests.{both-of, of-both, any-in, in-any, t
 use Rattle.laws.proofs.Refusals.Stages.{first-accepts, need-accepts}
 use Rattle.laws.proofs.Refusals.Members.{each-accepts, pass-in}
 use Rattle.meaning.specs.Operation.{Odd}
-use Rattle.laws.proofs.Lists.Has.{in-has, has-in, Within}
+use Rattle.laws.proofs.Lists.Has.{in-has, has-in, Among}
 use Rattle.laws.proofs.Distance.Reach.{in-candidates, reach-is, reached-odd, reached-within, reach-same}
 
 -- ---- the test for two operations
@@ -143,18 +143,18 @@ module _ (L : ℕ) (vals : List ℕ) (c : ℕ) where
 
 -- ---- only the members count
 
-twice-within : (L : ℕ) (xs ys : List ℕ) (c : ℕ) → Within xs ys → ReachedTwice L xs c → ReachedTwice L ys c
+twice-within : (L : ℕ) (xs ys : List ℕ) (c : ℕ) → Among xs ys → ReachedTwice L xs c → ReachedTwice L ys c
 twice-within L xs ys c h r =
     record { s = r .s; first = reached-within L xs ys (r .s) h (r .first); second = reached-within L (r .s ∷ xs) (r .s ∷ ys) c more (r .second) }
   where
-    more : Within (r .s ∷ xs) (r .s ∷ ys)
+    more : Among (r .s ∷ xs) (r .s ∷ ys)
     more a i = ⊎-elim (λ e. List·Memᴰ·head e) (λ j. List·Memᴰ·tail (h a j)) (List·Memᴰ·cases-cons i)
 
 same-test : {A B : Type 0} (a b : Bool) → T a ↔ A → T b ↔ B → (A → B) → (B → A) → a ≡ b
 same-test a b p q f g = bool-ext a b (λ t. q .1 (f (p .0 t))) (λ t. p .1 (g (q .0 t)))
 
 -- so that repeats, and the order, change nothing
-pub distance-same : (L : ℕ) (xs ys : List ℕ) (c : ℕ) → Within xs ys → Within ys xs → distance L xs c ≡ distance L ys c
+pub distance-same : (L : ℕ) (xs ys : List ℕ) (c : ℕ) → Among xs ys → Among ys xs → distance L xs c ≡ distance L ys c
 unfolding distance
 distance-same L xs ys c h k =
     let e : has xs c ≡ has ys c = same-test _ _ (has-is L xs c) (has-is L ys c) (h c) (k c) in

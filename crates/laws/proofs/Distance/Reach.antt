@@ -11,7 +11,7 @@ use lib.Pow.{pow-pos}
 use Rattle.meaning.specs.Basics.{any, upFrom, zeros}
 use Rattle.meaning.specs.Operation.{size, Valid, Gives, Odd}
 use Rattle.meaning.specs.Distance.{gives?, shiftPairs, oneOp?, reach?, Reached, candidates}
-use Rattle.laws.proofs.Lists.Has.{Within}
+use Rattle.laws.proofs.Lists.Has.{Among}
 use Rattle.laws.proofs.Lists.Tests.{any-in, in-any, in-up, either-of, of-left, of-right, bool-ext}
 use Rattle.laws.proofs.Operation.Result.{valid-of-test, test-of-valid, exact-of}
 
@@ -99,10 +99,10 @@ pub reached-odd : (L : ℕ) (vals : List ℕ) (c : ℕ) → Reached L vals c →
 reached-odd L vals c r = let k = r .gives .valid .outcome in (exact-of L _ _ c k .odd, k .below)
 
 -- more values reach no less
-pub reached-within : (L : ℕ) (xs ys : List ℕ) (c : ℕ) → Within xs ys → Reached L xs c → Reached L ys c
+pub reached-within : (L : ℕ) (xs ys : List ℕ) (c : ℕ) → Among xs ys → Reached L xs c → Reached L ys c
 reached-within L xs ys c h r = record { u = r .u; v = r .v; first = h (r .u) (r .first); second = h (r .v) (r .second); gives = r .gives }
 
-pub reach-same : (L : ℕ) (xs ys : List ℕ) (c : ℕ) → Within xs ys → Within ys xs → reach? L xs c ≡ reach? L ys c
+pub reach-same : (L : ℕ) (xs ys : List ℕ) (c : ℕ) → Among xs ys → Among ys xs → reach? L xs c ≡ reach? L ys c
 reach-same L xs ys c h k =
     bool-ext (reach? L xs c) (reach? L ys c)
     (λ t. of-reached L ys c (reached-within L xs ys c h (reached-of L xs c t)))

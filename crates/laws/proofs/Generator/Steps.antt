@@ -22,8 +22,8 @@ use Rattle.laws.proofs.Generator.Choices.{got-row}
 abbrev pub near : ℕ → List ℕ → ℕ → Option ℕ
 near L vals c = cond (reach? L vals c) (some c) none
 
-abbrev rowOf : ℕ → List Row → ℕ → Option (List Row)
-rowOf L before c = andThen (rowFor L before c) (λ x. some (x ∷ []))
+abbrev oneRow : ℕ → List Row → ℕ → Option (List Row)
+oneRow L before c = andThen (rowFor L before c) (λ x. some (x ∷ []))
 
 abbrev or {ℓ} : {A : Type ℓ} → Option A → Option A → Option A
 or none r = r
@@ -38,23 +38,23 @@ first-step {B = B} f x xs = go (f x)
     go (some b) = refl
 
 -- the first that is reached, and its row
-pub rule-a-is : (L : ℕ) (before : List Row) (cs : List ℕ) → ruleA L before cs ≡ andThen (firstSome (near L (ready before)) cs) (rowOf L before)
+pub rule-a-is : (L : ℕ) (before : List Row) (cs : List ℕ) → ruleA L before cs ≡ andThen (firstSome (near L (ready before)) cs) (oneRow L before)
 unfolding ruleA
 rule-a-is L before [] = unfold firstSome andThen in refl
 rule-a-is L before (c ∷ cs) =
-    first-step (rowOf L before) c cs
+    first-step (oneRow L before) c cs
     ∙ go (rowFor L before c) (reach? L (ready before) c) refl (got-row L before c) (rule-a-is L before cs)
-    ∙ ap (λ o. andThen o (rowOf L before)) (sym (first-step (near L (ready before)) c cs))
+    ∙ ap (λ o. andThen o (oneRow L before)) (sym (first-step (near L (ready before)) c cs))
   where
     rest : Option ℕ
     rest = firstSome (near L (ready before)) cs
 
-    go : (o : Option Row) (b : Bool) → rowFor L before c ≡ o → got (rowFor L before c) ≡ b → firstSome (rowOf L before) cs ≡ andThen rest (rowOf L before)
-        → or (rowOf L before c) (firstSome (rowOf L before) cs) ≡ andThen (or (cond b (some c) none) rest) (rowOf L before)
+    go : (o : Option Row) (b : Bool) → rowFor L before c ≡ o → got (rowFor L before c) ≡ b → firstSome (oneRow L before) cs ≡ andThen rest (oneRow L before)
+        → or (oneRow L before c) (firstSome (oneRow L before) cs) ≡ andThen (or (cond b (some c) none) rest) (oneRow L before)
     go none true e f ih = absurd (let q : false ≡ true = sym (ap got e) ∙ f in let z : _≡_ {A = ℕ} 0 1 = cc in omega arith)
-    go none false e f ih = ap (λ o. or (andThen o (λ x. some (x ∷ []))) (firstSome (rowOf L before) cs)) e ∙ (unfold andThen in ih)
+    go none false e f ih = ap (λ o. or (andThen o (λ x. some (x ∷ []))) (firstSome (oneRow L before) cs)) e ∙ (unfold andThen in ih)
     go (some x) true e f ih =
-        ap (λ o. or (andThen o (λ x. some (x ∷ []))) (firstSome (rowOf L before) cs)) e ∙ sym (unfold andThen in (ap (λ o. andThen o (λ x. some (x ∷ []))) e))
+        ap (λ o. or (andThen o (λ x. some (x ∷ []))) (firstSome (oneRow L before) cs)) e ∙ sym (unfold andThen in (ap (λ o. andThen o (λ x. some (x ∷ []))) e))
     go (some x) false e f ih = absurd (let q : true ≡ false = sym (ap got e) ∙ f in let z : _≡_ {A = ℕ} 0 1 = cc in omega arith)
 
 -- ---- the constants that remain, one after the other

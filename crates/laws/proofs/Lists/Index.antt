@@ -1,15 +1,12 @@
--- The member at an index, and the lowest index that has a value: what it is, and as a loop meets it. Assumes nothing.
+-- The member at an index, and the lowest index that has a value. Assumes nothing.
 use mathlib.Core.Path.{_≡_, refl, _∙_, subst}
 use mathlib.Core.Bool.{Bool, true, false, cond, _||_}
 use mathlib.Core.List.{List, [], _∷_, List·Memᴰ, List·Memᴰ·head, List·Memᴰ·tail}
 use Prim.Native.Nat.{ℕ, zero, suc, _+_, _≤_, _<_}
 use native.Mathlib.Nat.{le-of-suc-le-suc}
-use native.Mathlib.Numerals.{add-one}
 use native.Mathlib.Omega.{arith}
-use borrow.Author.Tests.{eq-eqb, ne-eqb}
 use lib.Dec.{T, eqb, eqb→eq}
-use lib.ListN.{length, getD, drop, drop-of-length-le}
-use lib.Seq.{drop-cons}
+use lib.ListN.{length, getD}
 use Rattle.meaning.specs.Basics.{has, indexFrom}
 use Rattle.laws.proofs.Lists.Tests.{eq→eqb, T-of}
 
@@ -63,16 +60,3 @@ index-inside k (x ∷ xs) c h = go (eqb x c) (index-inside (suc k) xs c (omega a
 pub index-most : (xs : List ℕ) (c : ℕ) → indexFrom 0 xs c ≤ length xs
 index-most [] c = unfold indexFrom in (omega arith)
 index-most (x ∷ xs) c = omega (arith, index-inside 0 (x ∷ xs) c (omega arith))
-
--- the same as a loop over the list meets it: the index for all is the index for what is left
-pub index-miss : (k i : ℕ) (xs : List ℕ) (c : ℕ) → i < length xs → (getD xs i 0 ≡ c → ⊥) → indexFrom k (drop i xs) c ≡ indexFrom (k + 1) (drop (i + 1) xs) c
-unfolding indexFrom
-index-miss k i xs c h n = rw (drop-cons xs i 0 h, ne-eqb (getD xs i 0) c n, add-one k, add-one i)
-
-pub index-hit : (k i : ℕ) (xs : List ℕ) (c : ℕ) → i < length xs → getD xs i 0 ≡ c → indexFrom k (drop i xs) c ≡ k
-unfolding indexFrom
-index-hit k i xs c h e = rw (drop-cons xs i 0 h, eq-eqb (getD xs i 0) c e)
-
-pub index-end : (k i : ℕ) (xs : List ℕ) (c : ℕ) → length xs ≤ i → indexFrom k (drop i xs) c ≡ 0
-unfolding indexFrom
-index-end k i xs c h = rw (drop-of-length-le xs h)

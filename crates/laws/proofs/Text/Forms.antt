@@ -85,19 +85,19 @@ short-number d n h = record { short = digits-most 20 d n h }
 
 -- ---- how long a line is: its form, and what its numbers take beyond one digit each
 
-abbrev pub Within : List ℕ → List ℤ → Type 0
-Within ds [] = Unit {0}
-Within [] (z ∷ zs) = ⊥
-Within (d ∷ ds) (z ∷ zs) = Short d z × Within ds zs
+abbrev pub AllShort : List ℕ → List ℤ → Type 0
+AllShort ds [] = Unit {0}
+AllShort [] (z ∷ zs) = ⊥
+AllShort (d ∷ ds) (z ∷ zs) = Short d z × AllShort ds zs
 
 abbrev pub total : List ℕ → ℕ
 total [] = 0
 total (d ∷ ds) = d + total ds
 
 abbrev Roomy : List ℕ → Type 0
-Roomy form = (ds : List ℕ) (zs : List ℤ) → Within ds zs → length (lineOf form zs) ≤ length form + total ds
+Roomy form = (ds : List ℕ) (zs : List ℤ) → AllShort ds zs → length (lineOf form zs) ≤ length form + total ds
 
-step-room : (c : ℕ) (cs : List ℕ) → Roomy cs → (b : Bool) (ds : List ℕ) (zs : List ℤ) → Within ds zs
+step-room : (c : ℕ) (cs : List ℕ) → Roomy cs → (b : Bool) (ds : List ℕ) (zs : List ℤ) → AllShort ds zs
     → length (cond b (textOf (getD zs 0 (pos 0))) (c ∷ []) ++ lineOf cs (drop (cond b 1 0) zs)) ≤ suc (length cs) + total ds
 step-room c cs rec true ds [] w =
     let zero = short-number 0 0 (omega arith) .short in

@@ -18,10 +18,10 @@ use Rattle.meaning.specs.declared.Row.{Row}
 use Rattle.meaning.specs.Basics.{upFrom, indexFrom, zeros, zerosIn}
 use Rattle.meaning.specs.Constants.{signOf, shiftOf, oddOf, wanted}
 use Rattle.meaning.specs.Digits.{csdSum}
-use Rattle.meaning.specs.Forms.{lineOf, linesOf, bitsForm, inputForm, addersForm, csdForm, rowForm, outForm, refusedForm}
+use Rattle.meaning.specs.Forms.{lineOf, linesOf, bitsForm, inputForm, reportText, addersForm, csdForm, rowForm, outForm, refusedForm}
 use Rattle.meaning.specs.Graph.{rowAt, rowAfter, rows, values, outputIndex, Sound}
 use Rattle.meaning.specs.Limits.{limit, mostLimit, mostRows, mostTargets}
-use Rattle.meaning.specs.Listing.{reportText, headText, rowOrder, rowOf, rowNumbers, rowsBy, outNumbers, outsFrom, listingOf, graphIn, refusedLine, headRoom, rowLineRoom, outLineRoom, textRoom}
+use Rattle.meaning.specs.Listing.{headText, rowOrder, nthRow, rowNumbers, rowsBy, outNumbers, outsFrom, listingOf, graphIn, refusedLine, headRoom, rowLineRoom, outLineRoom, textRoom}
 use Rattle.meaning.specs.Refusals.{number, placeOf}
 use Rattle.meaning.specs.Text.{unsignedText}
 use Rattle.meaning.specs.Widths.{extraBits, rowWidth, Ranked, place, rankedFrom, ranking}
@@ -173,7 +173,7 @@ out-room input vals k t w few low f =
 
 -- the line of row i of a graph that is not refused
 row-room : (L n : ℕ) (ws : List ℕ) (input i : ℕ) → 1 ≤ L → L ≤ mostLimit → n ≤ mostRows → input ≤ 32 → Sound L [] (rows n ws) → 1 ≤ i → i ≤ n
-    → length (lineOf rowForm (rowNumbers (pos input) i (rowOf (rows n ws) i))) ≤ rowLineRoom
+    → length (lineOf rowForm (rowNumbers (pos input) i (nthRow (rows n ws) i))) ≤ rowLineRoom
 unfolding rowNumbers
 row-room L n ws input i one most few w s low high =
     let x : Row = rowAfter ws (i - 1) in
@@ -227,7 +227,7 @@ module _ (input : ℕ) (w : input ≤ 32) where
       → ((i : ℕ) → List·Memᴰ i order → (1 ≤ i) × (i ≤ n)) → length order ≡ n
       → length (linesOf rowForm (rowsBy (pos input) (rows n ws) order)) ≤ mostRows * rowLineRoom
   rows-room L n ws order one most few s inside all =
-      let f : ℕ → List ℤ = λ i. rowNumbers (pos input) i (rowOf (rows n ws) i) in
+      let f : ℕ → List ℤ = λ i. rowNumbers (pos input) i (nthRow (rows n ws) i) in
       omega (
         arith,
         lines-room rowForm rowLineRoom (map f order) (λ zs m. let (i, k, e) = in-map f order zs m in let (low, high) = inside i k in

@@ -6,7 +6,7 @@ use borrow.Author.Needs.{needs}
 use lib.IntN.{ℤ, pos}
 use lib.ListN.{length, take, length-replicate}
 use lib.Seq.{sets, length-sets, length-take-le}
-use Rattle.meaning.specs.Job.{Asked, asks, jobOf}
+use Rattle.meaning.specs.Job.{mostJobTargets, Asked, asks, jobOf}
 use Rattle.meaning.specs.Listing.{replyTo}
 use Rattle.job.specs.declared.Parsed.{Parsed}
 use Rattle.job.specs.Held.{noTargets, parsedOf}
@@ -33,10 +33,10 @@ read c =
 array : (c : tie.After-asks2) → c .before .before .parse .result .targets ≡ sets noTargets 0 (read c .job .targets)
 array c = ap (λ (x : Parsed). x .targets) (c .before .before .parse .ensures) ∙ ap (λ x. parsedOf x .targets) (read c .is)
 
-places : (c : tie.After-asks2) → length (c .before .before .parse .result .targets) ≡ 128
-places c = ap length (array c) ∙ length-sets noTargets 0 (read c .job .targets) ∙ length-replicate {A = ℤ} 128 (pos 0)
+places : (c : tie.After-asks2) → length (c .before .before .parse .result .targets) ≡ mostJobTargets
+places c = ap length (array c) ∙ length-sets noTargets 0 (read c .job .targets) ∙ length-replicate {A = ℤ} mostJobTargets (pos 0)
 
-few : (c : tie.After-asks2) → c .asks2 .given .0 .1 .0 ≤ 128
+few : (c : tie.After-asks2) → c .asks2 .given .0 .1 .0 ≤ mostJobTargets
 few c = omega (arith, most-targets _ (read c .job) (read c .is), read c .count)
 
 targets : (c : tie.After-asks2) → take (c .asks2 .given .0 .1 .0) (c .before .before .parse .result .targets) ≡ read c .job .targets

@@ -1,6 +1,6 @@
 -- `add_row` meets its contract. Assumes nothing.
 use borrow.Author.Needs.{needs}
-use Rattle.search.specs.Listed.{Added}
+use Rattle.search.specs.Held.{Added}
 use Rattle.generator.proofs.DraftLaws.{grown-one}
 use Rattle.generator.proofs.draft.add_row.Statement.{statement}
 use Rattle.generator.proofs.draft.add_row.Tie as tie

@@ -9,7 +9,7 @@ use borrow.Author.Tests.{not-true, not-false}
 use lib.ListN.{length}
 use Rattle.constants.specs.declared.wanted.Wanted.{Wanted}
 use Rattle.constants.specs.Held.{kept}
-use Rattle.search.specs.Listed.{listed}
+use Rattle.search.specs.Held.{listed}
 use Rattle.constants.proofs.Kept.{kept-inside, kept-at, kept-end}
 use Rattle.generator.proofs.RemainingLaws.{Sifted, sift-start, sift-ready, sift-left, sift-end}
 use Rattle.generator.proofs.remaining.left.Statement.{statement}

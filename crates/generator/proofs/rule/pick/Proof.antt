@@ -11,7 +11,7 @@ use Rattle.meaning.specs.Graph.{ready}
 use Rattle.meaning.specs.Generator.{ruleB}
 use Rattle.constants.specs.Held.{kept}
 use Rattle.constants.proofs.Kept.{kept-in, kept-next, kept-end}
-use Rattle.search.specs.Listed.{listed}
+use Rattle.search.specs.Held.{listed}
 use Rattle.search.specs.Choices.{chosenIn}
 use Rattle.search.proofs.RuleB.{b-empty}
 use Rattle.generator.proofs.RuleLaws.{picked-at, picked-none, ceiling}

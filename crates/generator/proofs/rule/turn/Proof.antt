@@ -11,7 +11,7 @@ use Rattle.meaning.specs.Digits.{prefixes}
 use Rattle.meaning.specs.Generator.{rowFor, ruleA, ruleC, added}
 use Rattle.constants.specs.Held.{kept}
 use Rattle.constants.proofs.Kept.{kept-at, kept-inside, kept-in, kept-nothing}
-use Rattle.search.specs.Listed.{listed}
+use Rattle.search.specs.Held.{listed}
 use Rattle.generator.specs.Growth.{drawnRows, Open, Grown, atMostOne}
 use Rattle.generator.proofs.DraftLaws.{grown-none, grown-then, drawn-more, open-on, open-less}
 use Rattle.generator.specs.declared.rule.Chosen.{Chosen}

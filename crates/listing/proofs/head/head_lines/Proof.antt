@@ -9,8 +9,8 @@ use mir.Syntax.{w32, w64}
 use mir.Val.{SFits, toZ, ofZ}
 use mir.ValLaws.{toZ-ofZ, toZ-pos}
 use borrow.Author.Needs.{needs}
-use Rattle.meaning.specs.Forms.{lineOf, bitsForm, inputForm, addersForm, csdForm}
-use Rattle.meaning.specs.Listing.{reportText, headText}
+use Rattle.meaning.specs.Forms.{lineOf, bitsForm, inputForm, reportText, addersForm, csdForm}
+use Rattle.meaning.specs.Listing.{headText}
 use Rattle.laws.proofs.Whole.Signed.{wide}
 use Rattle.writing.specs.Wrote.{Wrote}
 use Rattle.writing.proofs.Writing.{_⨾_, room, front-fits}

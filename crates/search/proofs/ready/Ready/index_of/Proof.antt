@@ -8,7 +8,7 @@ use Rattle.meaning.specs.Basics.{indexFrom}
 use Rattle.meaning.specs.Limits.{mostReady}
 use Rattle.laws.proofs.Lists.Index.{index-most}
 use Rattle.search.specs.declared.ready.Ready.{Ready}
-use Rattle.search.specs.Listed.{listed}
+use Rattle.search.specs.Held.{listed}
 use Rattle.search.proofs.ReadyLaws.{list-length}
 use Rattle.search.proofs.ready.Ready.index_of.Statement.{statement}
 use Rattle.search.proofs.ready.Ready.index_of.Tie as tie

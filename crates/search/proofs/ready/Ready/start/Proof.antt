@@ -1,6 +1,6 @@
 -- `Ready::start` meets its contract: the set is the one that starts. Assumes nothing.
 use borrow.Author.Needs.{needs}
-use Rattle.search.specs.Listed.{started}
+use Rattle.search.specs.Held.{started}
 use Rattle.search.proofs.ReadyLaws.{start-is}
 use Rattle.search.proofs.ready.Ready.start.Statement.{statement}
 use Rattle.search.proofs.ready.Ready.start.Tie as tie
