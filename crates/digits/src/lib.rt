@@ -3,7 +3,7 @@ ghost use mathlib.Core.Path.{_≡_};
 ghost use Prim.Native.Nat.{_<_};
 ghost use lib.ListN.{length};
 ghost use Rattle.meaning.specs.Digits.{above as Digits·above, canonic, nonzeros, prefixes as Digits·prefixes, formOf, minusPlaces};
-ghost use Rattle.meaning.specs.Refusals.{Done, canonicTold, canonicWritten};
+ghost use Rattle.meaning.specs.Calls.{WritesForm};
 ghost use Rattle.digits.specs.Held.{prefixesHeld, near as Held·near, endSign, oddPart, lastPrefix, placesHeld};
 use meaning::Formed;
 use meaning::Prefix;
@@ -164,9 +164,7 @@ pub fn places_of(t: i32) -> Places
 
 // The two words of a constant's form over the front of `out`. Refusal 4.
 pub fn canonic_to(t: i32, out: &mut [u32]) -> Formed
-    ensures { λ r. ⌜
-        Done (canonicTold t (length (now (out .entry)))) (canonicWritten t (length (now (out .entry)))) r (now (out .entry)) (now (out .exit))
-        ⌝ }
+    ensures { λ r. ⌜ WritesForm t r (now (out .entry)) (now (out .exit)) ⌝ }
 {
     if out.len() < 2 {
         return Formed::Refused(Refusal::Buffer);

@@ -9,7 +9,7 @@ ghost use mathlib.Core.Path.{_≡_};
 ghost use Prim.Native.Nat.{_≤_};
 ghost use lib.ListN.{length};
 ghost use Rattle.meaning.specs.Distance.{distance as Distance·distance};
-ghost use Rattle.meaning.specs.Refusals.{distanceTold};
+ghost use Rattle.meaning.specs.Calls.{Distances};
 ghost use Rattle.search.specs.Marks.{longLimit, OddsIn, State};
 ghost use Rattle.distance.specs.Away.{Away};
 
@@ -55,7 +55,7 @@ fn beyond_zero(limit: u32, vals: &[u32], c: u32) -> Far
 
 // The distance of c from the ready list, or the refusal.
 pub fn distance(b: u32, vals: &[u32], c: u32) -> Far
-    ensures { λ r. ⌜ r ≡ distanceTold b (now (vals .entry)) c ⌝ }
+    ensures { λ r. ⌜ Distances b (now (vals .entry)) c r ⌝ }
 {
     let answer = ready_list::admit(b, vals, c);
     if let Answer::Refused(why) = answer {

@@ -1,5 +1,5 @@
 -- What the calls for other languages share: an answer handed back as its code, and numbers that fit. Assumes nothing.
-use mathlib.Core.Path.{_≡_, sym, ap, ap₂, _∙_, subst}
+use mathlib.Core.Path.{_≡_, sym, ap, _∙_, subst}
 use mathlib.Core.Bool.{Bool, true, false, cond}
 use mathlib.Core.List.{List, [], _∷_}
 use Prim.Native.Nat.{ℕ, _*_, _≤_}
@@ -19,10 +19,11 @@ use Rattle.meaning.specs.declared.Refusal.{Refusal}
 use Rattle.meaning.specs.declared.Refusal.the-variants as no
 use Rattle.meaning.specs.Basics.{over}
 use Rattle.meaning.specs.Graph.{rowLength}
-use Rattle.meaning.specs.Refusals.{rankingOrder, widthsOrder, ranked, measured, Done}
+use Rattle.meaning.specs.Refusals.{rankingOrder, widthsOrder, ranked, measured}
 use Rattle.meaning.specs.Listing.{textRoom, jobText, printedTold, textWritten}
+use Rattle.meaning.specs.Calls.{Prints}
 use Rattle.laws.proofs.Refusals.Stages.{first-accepts, need-accepts}
-use Rattle.exports.specs.Codes.{coded}
+use Rattle.exports.specs.Codes.{coded, Coded}
 
 -- the code of a refusal, or of acceptance, is that of the answer which was one
 pub refused-coded : (a : Answer) (why : Refusal) (m n : ℕ) → a ≡ Refused why → coded (Refused why) m ≡ coded a n
@@ -32,24 +33,19 @@ refused-coded a why m n e = sym (ap (λ x. coded x n) e)
 pub accepted-coded : (a : Answer) (n : ℕ) → a ≡ Accepted → coded Accepted n ≡ coded a n
 accepted-coded a n e = sym (ap (λ x. coded x n) e)
 
--- an answer r, handed back as its code z, with m for acceptance
-pub coded-is : (a r : Answer) (n m : ℕ) (z : ℤ) → SFits w64 z → z ≡ coded r m → m ≡ n → r ≡ a → toZ w64 (ofZ w64 z) ≡ coded a n
-coded-is a r n m z h e f g = toZ-ofZ w64 z h ∙ e ∙ ap₂ coded g f
-
--- any answer of a call that writes, handed back as its code
-pub handed : {A B : Type 0} (code : B → ℤ) (told r : B) (z : ℤ) (w before after : List A) → SFits w64 z → z ≡ code r → Done told w r before after
-    → Done (code told) w (toZ w64 (ofZ w64 z)) before after
-handed code told r z w before after h e d = record { answers = toZ-ofZ w64 z h ∙ e ∙ ap code (d .answers); writes = d .writes }
+-- a call's answer, handed back as its code z
+pub handed : {R : Type 0} (Call : R → Type 0) (code : R → ℤ) (a : R) (z : ℤ) → SFits w64 z → z ≡ code a → Call a → Coded Call code (toZ w64 (ofZ w64 z))
+handed Call code a z h e d = record { answer = a; call = d; told = toZ-ofZ w64 z h ∙ e }
 
 -- the same with m for acceptance
-pub coded-done : {A : Type 0} (a r : Answer) (n m : ℕ) (z : ℤ) (w before after : List A) → SFits w64 z → z ≡ coded r m → m ≡ n → Done a w r before after
-    → Done (coded a n) w (toZ w64 (ofZ w64 z)) before after
-coded-done a r n m z w before after h e f d = record { answers = coded-is a r n m z h e f (d .answers); writes = d .writes }
+pub handed-as : (Call : Answer → Type 0) (a : Answer) (n m : ℕ) (z : ℤ) → SFits w64 z → z ≡ coded a m → m ≡ n → Call a
+    → Coded Call (λ x. coded x n) (toZ w64 (ofZ w64 z))
+handed-as Call a n m z h e f d = handed Call (λ x. coded x n) a z h (e ∙ ap (coded a) f) d
 
--- a constant handed on: what was done for it
-pub for-constant : {R A : Type 0} (t : ℤ) (told : ℤ → R) (written : ℤ → List A) {z : ℤ} {r : R} {before after : List A} → z ≡ t
-    → Done (told z) (written z) r before after → Done (told t) (written t) r before after
-for-constant t told written {r = r} {before = before} {after = after} e d = subst (λ x. Done (told x) (written x) r before after) e d
+-- a constant handed on as z: the call is that of the constant
+pub for-constant : {R A : Type 0} (Call : ℤ → R → List A → List A → Type 0) (t : ℤ) {z : ℤ} {r : R} {before after : List A} → Call z r before after → z ≡ t
+    → Call t r before after
+for-constant Call t {r = r} {before = before} {after = after} d e = subst (λ x. Call x r before after) e d
 
 -- a graph that is ranked or measured has few rows
 abbrev roomTests : ℕ → List ℕ → List Bool
@@ -69,7 +65,7 @@ module _ (b : ℕ) (ts : List ℤ) (n : ℕ) (w : List ℕ) (input room : ℕ) w
       leb→le n mostRows (need-accepts no.RowCount (roomTests n w) s5 .0)
 
 -- a text that was written is within its buffer
-pub bytes-within : (s before after : List ℕ) (p : Printed) (n : ℕ) → Done (printedTold s (length before)) (textWritten s (length before)) p before after
+pub bytes-within : (s before after : List ℕ) (p : Printed) (n : ℕ) → Prints s p before after
     → p ≡ out.Bytes n → length after ≡ length before → n ≤ length before
 unfolding printedTold textWritten over
 bytes-within s before after p n d e same = go (leb textRoom (length before)) (sym e ∙ d .answers) (d .writes)

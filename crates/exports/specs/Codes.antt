@@ -1,4 +1,5 @@
 -- A call's answer as one signed number, for callers in other languages. Assumes nothing.
+use mathlib.Core.Path.{_≡_}
 use Prim.Native.Nat.{ℕ, _+_, _*_}
 use lib.IntN.{ℤ, pos, negℤ}
 use Rattle.meaning.specs.declared.Answer.{Answer}
@@ -49,3 +50,9 @@ printedCode (out.Refused why) = refusalCode why
 unfoldable pub formedCode : Formed → ℤ
 formedCode (formed.Digits n) = pos n
 formedCode (formed.Refused why) = refusalCode why
+
+-- a call that answers a, handed back as the number r
+pub record Coded {R : Type 0} (Call : R → Type 0) (code : R → ℤ) (r : ℤ) : Type 0 where
+  pub answer : R
+  pub call : Call answer
+  pub told : r ≡ code answer

@@ -21,7 +21,8 @@ ghost use Rattle.meaning.specs.declared.Answer.the-variants.{Accepted};
 ghost use Rattle.meaning.specs.Basics.{over};
 ghost use Rattle.meaning.specs.Limits.{limit as Limits·limit, mostTargets, mostRows};
 ghost use Rattle.meaning.specs.Graph.{rowLength, flat};
-ghost use Rattle.meaning.specs.Refusals.{admitted, Done, drawnTold, rowsWritten};
+ghost use Rattle.meaning.specs.Refusals.{admitted};
+ghost use Rattle.meaning.specs.Calls.{Generates};
 ghost use Rattle.search.specs.Held.{Started};
 ghost use Rattle.search.specs.Marks.{State};
 ghost use Rattle.generator.specs.Rule.{turned, Drawable};
@@ -54,10 +55,7 @@ fn draw(map: &mut [u8], limit: u32, out: &mut [u32], w: Wanted) -> Ready
 // The rows for an admitted list, by a map of zeros.
 fn rows_by(map: &mut [u8], b: u32, ts: &[i32], out: &mut [u32]) -> Drawn
     requires { ⌜ State (Limits·limit b) (now map) [] 0 × (admitted b (now ts) ≡ Accepted) × (rowLength * mostRows ≤ length (now out)) ⌝ }
-    ensures { λ r. ⌜
-        Done (drawnTold b (now (ts .entry)) (length (now (out .entry)))) (rowsWritten b (now (ts .entry)) (length (now (out .entry)))) r
-        (now (out .entry)) (now (out .exit))
-        ⌝ }
+    ensures { λ r. ⌜ Generates b (now (ts .entry)) r (now (out .entry)) (now (out .exit)) ⌝ }
 {
     let limit = arith::limit(b);
     let set = draw(map, limit, out, constants::wanted::wanted_of(ts));
@@ -67,10 +65,7 @@ fn rows_by(map: &mut [u8], b: u32, ts: &[i32], out: &mut [u32]) -> Drawn
 // The rows of the generator's rule from the front of out, and how many they are. Refusals 1, 2, 3, 4; a 129th row is never
 // needed, so 8 does not come.
 pub fn generate(b: u32, ts: &[i32], out: &mut [u32]) -> Drawn
-    ensures { λ r. ⌜
-        Done (drawnTold b (now (ts .entry)) (length (now (out .entry)))) (rowsWritten b (now (ts .entry)) (length (now (out .entry)))) r
-        (now (out .entry)) (now (out .exit))
-        ⌝ }
+    ensures { λ r. ⌜ Generates b (now (ts .entry)) r (now (out .entry)) (now (out .exit)) ⌝ }
 {
     let answer = constants::admit(b, ts);
     if let Answer::Refused(why) = answer {

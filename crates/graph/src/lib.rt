@@ -16,7 +16,8 @@ ghost use Rattle.meaning.specs.Limits.{mostTargets};
 ghost use Rattle.meaning.specs.declared.Refusal.the-variants.{Unserved};
 ghost use Rattle.meaning.specs.Basics.{has};
 ghost use Rattle.meaning.specs.Graph.{RowsIn, rows, served?};
-ghost use Rattle.meaning.specs.Refusals.{needEach, validRows, allServed, checked, sized};
+ghost use Rattle.meaning.specs.Refusals.{needEach, validRows, allServed};
+ghost use Rattle.meaning.specs.Calls.{Checks, ChecksWidth};
 
 // Refusal 6 with the first row that is not valid.
 fn valid_rows(b: u32, n: usize, words: &[u32]) -> Answer
@@ -72,7 +73,7 @@ fn all_served(ts: &[i32], n: usize, words: &[u32]) -> Answer
 
 // Refusals 1, 2, 3, 5, 6 and 7. Words beyond the rows are ignored.
 pub fn check(b: u32, ts: &[i32], n: usize, words: &[u32]) -> Answer
-    ensures { λ r. ⌜ r ≡ checked b (now (ts .entry)) n (now (words .entry)) ⌝ }
+    ensures { λ r. ⌜ Checks b (now (ts .entry)) n (now (words .entry)) r ⌝ }
 {
     let admitted = constants::admit(b, ts);
     let Answer::Accepted = admitted else {
@@ -90,7 +91,7 @@ pub fn check(b: u32, ts: &[i32], n: usize, words: &[u32]) -> Answer
 
 // As check, then 9: for the calls that speak of widths.
 pub fn check_width(b: u32, ts: &[i32], n: usize, words: &[u32], input: u32) -> Answer
-    ensures { λ r. ⌜ r ≡ sized b (now (ts .entry)) n (now (words .entry)) input ⌝ }
+    ensures { λ r. ⌜ ChecksWidth b (now (ts .entry)) n (now (words .entry)) input r ⌝ }
 {
     let checked = check(b, ts, n, words);
     let Answer::Accepted = checked else {

@@ -14,3 +14,4 @@ pub mod Text
 pub mod Forms
 pub mod Job
 pub mod Listing
+pub mod Calls

@@ -8,7 +8,8 @@ ghost use Prim.Native.Nat.{_+_, _<_, _≤_, min};
 ghost use lib.Dec.{leb, eqb};
 ghost use Rattle.meaning.specs.Basics.{all};
 ghost use Rattle.meaning.specs.Limits.{mostLimit};
-ghost use Rattle.meaning.specs.Operation.{whole, operated, operatedUnder};
+ghost use Rattle.meaning.specs.Operation.{whole, operated};
+ghost use Rattle.meaning.specs.Calls.{Operates};
 ghost use Rattle.operation.specs.Code.{outcomeOf};
 
 // Both shifts are at most the limit, s is 0 or 1, and at least one shift is 0.
@@ -78,7 +79,7 @@ fn made(limit: u32, u: u32, v: u32, l1: u32, l2: u32, s: u32) -> Operated
 
 // Under the bit limit b.
 pub fn operate(b: u32, u: u32, v: u32, l1: u32, l2: u32, s: u32) -> Operated
-    ensures { λ r. ⌜ r ≡ operatedUnder b u v l1 l2 s ⌝ }
+    ensures { λ r. ⌜ Operates b u v l1 l2 s r ⌝ }
 {
     if !arith::within(b as usize, LEAST_BITS, MOST_BITS) {
         return Operated::Invalid;

@@ -14,7 +14,8 @@ ghost use Rattle.meaning.specs.declared.Answer.the-variants.{Accepted};
 ghost use Rattle.meaning.specs.Basics.{every, over};
 ghost use Rattle.meaning.specs.Graph.{rowAfter, rows, values as Graph·values, ready, served?};
 ghost use Rattle.meaning.specs.Products.{rowProduct, products, targetProduct, targetProducts};
-ghost use Rattle.meaning.specs.Refusals.{Done, checked, multiplied, productsWritten};
+ghost use Rattle.meaning.specs.Refusals.{checked};
+ghost use Rattle.meaning.specs.Calls.{Multiplies};
 ghost use Rattle.products.specs.Worked.{Next, Graph, Made, Targets};
 
 // The product of the row after i rows, from the products of the indices before it.
@@ -92,10 +93,7 @@ fn work(b: u32, ts: &[i32], n: usize, words: &[u32], x: i32, out: &mut [i64])
 
 // A product for each target. Refusals as check, then 4.
 pub fn multiply(b: u32, ts: &[i32], n: usize, words: &[u32], x: i32, out: &mut [i64]) -> Answer
-    ensures { λ r. ⌜
-        Done (multiplied b (now (ts .entry)) n (now (words .entry)) (length (now (out .entry))))
-        (productsWritten b (now (ts .entry)) n (now (words .entry)) x (length (now (out .entry)))) r (now (out .entry)) (now (out .exit))
-        ⌝ }
+    ensures { λ r. ⌜ Multiplies b (now (ts .entry)) n (now (words .entry)) x r (now (out .entry)) (now (out .exit)) ⌝ }
 {
     let checked = graph::check(b, ts, n, words);
     let Answer::Accepted = checked else {

@@ -5,16 +5,11 @@ use job::Asks;
 use meaning::Printed;
 use meaning::Refusal;
 use meaning::TEXT_ROOM;
-ghost use lib.ListN.{length};
-ghost use Rattle.meaning.specs.Listing.{printedTold, textWritten};
-ghost use Rattle.meaning.specs.Refusals.{Done};
+ghost use Rattle.meaning.specs.Calls.{Prints};
 
 // What is printed for a job's text, from the front of out.
 pub fn answer(s: &[u8], out: &mut [u8]) -> Printed
-    ensures { λ r. ⌜
-        Done (printedTold (now (s .entry)) (length (now (out .entry)))) (textWritten (now (s .entry)) (length (now (out .entry)))) r
-        (now (out .entry)) (now (out .exit))
-        ⌝ }
+    ensures { λ r. ⌜ Prints (now (s .entry)) r (now (out .entry)) (now (out .exit)) ⌝ }
 {
     if out.len() < TEXT_ROOM {
         return Printed::Refused(Refusal::Buffer);

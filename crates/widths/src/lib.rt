@@ -11,7 +11,7 @@ ghost use lib.ListN.{length};
 ghost use Rattle.meaning.specs.Basics.{over, overAt};
 ghost use Rattle.meaning.specs.Graph.{RowsIn, rows, values};
 ghost use Rattle.meaning.specs.Widths.{rowWidth, outputWidth};
-ghost use Rattle.meaning.specs.Refusals.{Done, measured, widthsWritten};
+ghost use Rattle.meaning.specs.Calls.{Measures};
 
 // The rows' widths by their values, from the front.
 fn each_width(values: &[u32], input: u32, out: &mut [u32])
@@ -50,10 +50,7 @@ fn output_widths(ts: &[i32], input: u32, from: usize, out: &mut [u32])
 
 // Rows in row order, then outputs. Refusals as check, then 9, then 4.
 pub fn measure(b: u32, ts: &[i32], n: usize, words: &[u32], input: u32, out: &mut [u32]) -> Answer
-    ensures { λ r. ⌜
-        Done (measured b (now (ts .entry)) n (now (words .entry)) input (length (now (out .entry))))
-        (widthsWritten b (now (ts .entry)) n (now (words .entry)) input (length (now (out .entry)))) r (now (out .entry)) (now (out .exit))
-        ⌝ }
+    ensures { λ r. ⌜ Measures b (now (ts .entry)) n (now (words .entry)) input r (now (out .entry)) (now (out .exit)) ⌝ }
 {
     let sized = graph::check_width(b, ts, n, words, input);
     let Answer::Accepted = sized else {

@@ -1,11 +1,10 @@
 -- `tauwaage_apart` meets its contract: the answer with 3, and what was written. Assumes nothing.
 use native.Mathlib.Omega.{arith}
 use borrow.Author.Needs.{needs}
-use lib.ListN.{length}
 use mir.Syntax.{w64}
 use mir.Val.{SFits}
-use Rattle.meaning.specs.Refusals.{apartTold, apartWritten}
-use Rattle.exports.proofs.Handed.{coded-done, for-constant}
+use Rattle.meaning.specs.Calls.{TakesApart}
+use Rattle.exports.proofs.Handed.{handed-as, for-constant}
 use Rattle.exports.proofs.tauwaage_apart.Statement.{statement}
 use Rattle.exports.proofs.tauwaage_apart.Tie as tie
 
@@ -25,9 +24,8 @@ returns : tie.Need-returns
 returns c =
     let d = c .before .before in
     let a = d .before .before .args in
-    let room = length (a .out .now) in
-    let done = for-constant (a .constant) (λ t. apartTold room) (λ t. apartWritten t room) (search needs) (d .apart-to .ensures) in
-    coded-done _ _ _ _ _ _ _ _ (fit c) (c .of-answer .ensures) (omega arith) done
+    let done = for-constant TakesApart (a .constant) (d .apart-to .ensures) (search needs) in
+    handed-as _ _ _ _ _ (fit c) (c .of-answer .ensures) (omega arith) done
 
 pub tauwaage-apart-spec : {M : Type 1} → statement M
 tauwaage-apart-spec =

@@ -1,10 +1,9 @@
 -- `tauwaage_canonic` meets its contract: the code of the answer, and what it wrote. Assumes nothing.
 use mathlib.Core.Path.{ap, _∙_}
 use borrow.Author.Needs.{needs}
-use lib.ListN.{length}
 use mir.Syntax.{w64}
 use mir.Val.{SFits}
-use Rattle.meaning.specs.Refusals.{canonicTold, canonicWritten}
+use Rattle.meaning.specs.Calls.{WritesForm}
 use Rattle.exports.specs.Codes.{formedCode}
 use Rattle.exports.proofs.Handed.{handed, for-constant}
 use Rattle.exports.proofs.tauwaage_canonic.Statement.{statement}
@@ -26,9 +25,8 @@ returns : tie.Need-returns
 returns c =
     let d = c .before .before .before in
     let a = d .before .before .before .args in
-    let room = length (a .out .now) in
-    let done = for-constant (a .constant) (λ t. canonicTold t room) (λ t. canonicWritten t room) (search needs) (d .canonic-to .ensures) in
-    handed formedCode _ _ _ _ _ _ (fit c) (c .of-formed .ensures ∙ ap formedCode (search needs)) done
+    let done = for-constant WritesForm (a .constant) (d .canonic-to .ensures) (search needs) in
+    handed _ formedCode _ _ (fit c) (c .of-formed .ensures ∙ ap formedCode (search needs)) done
 
 pub tauwaage-canonic-spec : {M : Type 1} → statement M
 tauwaage-canonic-spec =

@@ -3,7 +3,7 @@ use native.Mathlib.Omega.{arith}
 use borrow.Author.Needs.{needs}
 use mir.Syntax.{w64}
 use mir.Val.{SFits}
-use Rattle.exports.proofs.Handed.{coded-is}
+use Rattle.exports.proofs.Handed.{handed-as}
 use Rattle.exports.proofs.tauwaage_check.Statement.{statement}
 use Rattle.exports.proofs.tauwaage_check.Tie as tie
 
@@ -17,7 +17,7 @@ of-answer-requires : tie.Need-of-answer-requires
 of-answer-requires c κs = search needs
 
 returns : tie.Need-returns
-returns c = coded-is _ _ _ _ _ (fit c) (c .of-answer .ensures) (omega arith) (c .before .check .ensures)
+returns c = handed-as _ _ _ _ _ (fit c) (c .of-answer .ensures) (omega arith) (c .before .check .ensures)
 
 pub tauwaage-check-spec : {M : Type 1} → statement M
 tauwaage-check-spec = tie.close (tie.spec check-requires of-answer-requires returns)

@@ -1,10 +1,9 @@
 -- `tauwaage_distance` meets its contract: the code of the distance. Assumes nothing.
-use mathlib.Core.Path.{ap, _∙_}
 use borrow.Author.Needs.{needs}
 use mir.Syntax.{w64}
 use mir.Val.{SFits}
-use mir.ValLaws.{toZ-ofZ}
 use Rattle.exports.specs.Codes.{farCode}
+use Rattle.exports.proofs.Handed.{handed}
 use Rattle.exports.proofs.tauwaage_distance.Statement.{statement}
 use Rattle.exports.proofs.tauwaage_distance.Tie as tie
 
@@ -18,7 +17,7 @@ of-far-requires : tie.Need-of-far-requires
 of-far-requires c κs = search needs
 
 returns : tie.Need-returns
-returns c = toZ-ofZ w64 _ (fit c) ∙ c .of-far .ensures ∙ ap farCode (c .before .distance .ensures)
+returns c = handed _ farCode _ _ (fit c) (c .of-far .ensures) (c .before .distance .ensures)
 
 pub tauwaage-distance-spec : {M : Type 1} → statement M
 tauwaage-distance-spec = tie.close (tie.spec distance-requires of-far-requires returns)

@@ -20,7 +20,7 @@ same-length : tie.Need-same-length
 same-length c = search needs
 
 returns : tie.Need-returns
-returns c = handed drawnCode _ _ _ _ _ _ (fit c) (c .of-drawn .ensures) (c .before .before .before .generate .ensures)
+returns c = handed _ drawnCode _ _ (fit c) (c .of-drawn .ensures) (c .before .before .before .generate .ensures)
 
 pub tauwaage-generate-spec : {M : Type 1} → statement M
 tauwaage-generate-spec =

@@ -21,7 +21,7 @@ same-length : tie.Need-same-length
 same-length c = search needs
 
 returns : tie.Need-returns
-returns c = handed printedCode _ _ _ _ _ _ (fit c) (c .of-printed .ensures) (c .before .before .before .answer .ensures)
+returns c = handed _ printedCode _ _ (fit c) (c .of-printed .ensures) (c .before .before .before .answer .ensures)
 
 pub tauwaage-job-spec : {M : Type 1} → statement M
 tauwaage-job-spec = tie.close (tie.spec answer-requires of-printed-requires same-length returns)

@@ -4,7 +4,7 @@ use borrow.Author.Needs.{needs}
 use mir.Syntax.{w32, w64}
 use mir.Val.{SFits}
 use mir.ValLaws.{toZ-ofZ}
-use Rattle.exports.proofs.Handed.{coded-done}
+use Rattle.exports.proofs.Handed.{handed-as}
 use Rattle.exports.proofs.tauwaage_products.Statement.{statement}
 use Rattle.exports.proofs.tauwaage_products.Tie as tie
 
@@ -23,7 +23,7 @@ same-length c = search needs
 returns : tie.Need-returns
 returns c =
     let d = c .before .before in
-    coded-done _ _ _ _ _ _ _ _ (fit c) (c .of-answer .ensures) (omega arith) (rw (toZ-ofZ w32 _ (d .before .before .before .fits .x)) at (d .multiply .ensures))
+    handed-as _ _ _ _ _ (fit c) (c .of-answer .ensures) (omega arith) (rw (toZ-ofZ w32 _ (d .before .before .before .fits .x)) at (d .multiply .ensures))
 
 pub tauwaage-products-spec : {M : Type 1} → statement M
 tauwaage-products-spec =

@@ -4,7 +4,7 @@ use native.Mathlib.Omega.{arith}
 use borrow.Author.Needs.{needs}
 use mir.Syntax.{w64}
 use mir.Val.{SFits}
-use Rattle.exports.proofs.Handed.{coded-done, ranked-rows}
+use Rattle.exports.proofs.Handed.{handed-as, ranked-rows}
 use Rattle.exports.proofs.tauwaage_ranking.Statement.{statement}
 use Rattle.exports.proofs.tauwaage_ranking.Tie as tie
 
@@ -21,7 +21,7 @@ same-length : tie.Need-same-length
 same-length c = search needs
 
 returns : tie.Need-returns
-returns c = coded-done _ _ _ _ _ _ _ _ (fit c) (c .of-answer .ensures) (omega arith) (c .before .before .before .rank .ensures)
+returns c = handed-as _ _ _ _ _ (fit c) (c .of-answer .ensures) (omega arith) (c .before .before .before .rank .ensures)
 
 pub tauwaage-ranking-spec : {M : Type 1} → statement M
 tauwaage-ranking-spec = tie.close (tie.spec rank-requires of-answer-requires same-length returns)

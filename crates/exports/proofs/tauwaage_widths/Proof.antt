@@ -6,7 +6,7 @@ use borrow.Author.Needs.{needs}
 use mir.Syntax.{w64}
 use mir.Val.{SFits}
 use Rattle.meaning.specs.Limits.{mostRows}
-use Rattle.exports.proofs.Handed.{coded-done, accepted-coded, refused-coded, measured-rows}
+use Rattle.exports.proofs.Handed.{handed-as, accepted-coded, refused-coded, measured-rows}
 use Rattle.exports.proofs.tauwaage_widths.Statement.{statement}
 use Rattle.exports.proofs.tauwaage_widths.Tie as tie
 
@@ -47,7 +47,7 @@ same-length c = search needs
 returns : tie.Need-returns
 returns c =
     let d = c .before .before .before .before .before in
-    coded-done _ _ _ _ _ _ _ _ (fit c) (c .of-answer .ensures ∙ accepted-coded _ _ (c .before .enum-told .given .1)) (omega arith) (d .measure .ensures)
+    handed-as _ _ _ _ _ (fit c) (c .of-answer .ensures ∙ accepted-coded _ _ (c .before .enum-told .given .1)) (omega arith) (d .measure .ensures)
 
 same-length-2 : tie.Need-same-length-2
 same-length-2 c = search needs
@@ -55,7 +55,7 @@ same-length-2 c = search needs
 returns-2 : tie.Need-returns-2
 returns-2 c =
     let d = c .before .before .before .before .before .before in
-    coded-done _ _ _ _ _ _ _ _ (fit2 c) (c .of-answer2 .ensures ∙ refused-coded _ _ _ _ (c .before .before .answer .given .1)) refl (d .measure .ensures)
+    handed-as _ _ _ _ _ (fit2 c) (c .of-answer2 .ensures ∙ refused-coded _ _ _ _ (c .before .before .answer .given .1)) refl (d .measure .ensures)
 
 pub tauwaage-widths-spec : {M : Type 1} → statement M
 tauwaage-widths-spec =
