@@ -1,2 +1,3 @@
--- What the code of a search works by.
+-- What the code of a search and of an insertion works by.
 pub mod Places
+pub mod Insertion

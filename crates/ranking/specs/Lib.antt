@@ -1,2 +1,2 @@
--- What the steps of the ranking do to a slice.
-pub mod Insertion
+-- What the steps of the ranking go by.
+pub mod Keys
