@@ -4,3 +4,4 @@ pub mod Over
 pub mod Has
 pub mod First
 pub mod Index
+pub mod Permutations

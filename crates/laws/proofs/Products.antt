@@ -17,7 +17,7 @@ use Rattle.laws.proofs.Whole.Integers.{add-mul, sub-mul, neg-mul, mul-a
 use Rattle.meaning.specs.declared.Row.{Row}
 use Rattle.meaning.specs.Basics.{every, has, indexFrom}
 use Rattle.meaning.specs.Constants.{signOf, shiftOf, oddOf, apart}
-use Rattle.meaning.specs.Operation.{whole}
+use Rattle.meaning.specs.Operation.{whole, size}
 use Rattle.meaning.specs.Graph.{rowAfter, rows, values, ready, valueAt, Fits, Sound, served?, outputIndex}
 use Rattle.meaning.specs.Products.{negative?, joined, negatedIf, rowProduct, productsFrom, products, targetProduct, targetProducts}
 use Rattle.laws.proofs.Lists.Index.{Lowest, none-below, index-is}
@@ -33,7 +33,7 @@ module _ (x : ℤ) where
   abbrev pub times : ℕ → ℤ
   times v = pos v *ℤ x
 
-  term : (l u : ℕ) → pos (2 ^ l) *ℤ times u ≡ times (2 ^ l * u)
+  pub term : (l u : ℕ) → pos (2 ^ l) *ℤ times u ≡ times (2 ^ l * u)
   term l u = sym (mul-assocℤ (pos (2 ^ l)) (pos u) x)
 
   -- the joined products are n times x
@@ -71,6 +71,11 @@ pub negative-is : (u v l1 l2 s : ℕ) → negative? u v l1 l2 s ≡ not (nonNeg 
 negative-is u v l1 l2 zero = refl
 negative-is u v l1 l2 (suc s) = less-negative (2 ^ l1 * u) (2 ^ l2 * v)
 
+-- the operands' products joined, and negated where n is negative, are |n| times x
+pub turned-is : (x : ℤ) (u v l1 l2 s : ℕ) → negatedIf (negative? u v l1 l2 s) (joined (times x u) (times x v) l1 l2 s) ≡ times x (size u v l1 l2 s)
+turned-is x u v l1 l2 s =
+    rw (negative-is u v l1 l2 s, joined-is x u v l1 l2 s, negated-is x (whole u v l1 l2 s)) (ap (times x) (size-is u v l1 l2 s))
+
 -- a valid row's product is its value times x, where its operands' products are
 pub row-is : (L : ℕ) (before : List Row) (y : Row) (x : ℤ) → Fits L before y
     → rowProduct (ready before) (map (times x) (ready before)) y ≡ pos (y .value) *ℤ x
@@ -81,10 +86,7 @@ row-is L before y x f =
     rw (
       product-at x (ready before) (y .u),
       product-at x (ready before) (y .v),
-      negative-is u v (y .l1) (y .l2) (y .s),
-      joined-is x u v (y .l1) (y .l2) (y .s),
-      negated-is x (whole u v (y .l1) (y .l2) (y .s)),
-      size-is u v (y .l1) (y .l2) (y .s),
+      turned-is x u v (y .l1) (y .l2) (y .s),
       exact-of L _ _ _ (f .operation .outcome) .whole,
     )
     (quotient x (y .value) (2 ^ y .r) (pow-pos (y .r)))
@@ -103,7 +105,7 @@ products-from L before (y ∷ ys) x p =
     ∙ products-from L more ys x (p .1)
     ∙ ap (λ l. map (times x) (ready l)) (append-assoc before (y ∷ []) ys)
 
-one-times : (x : ℤ) → pos 1 *ℤ x ≡ x
+pub one-times : (x : ℤ) → pos 1 *ℤ x ≡ x
 one-times (pos n) = ap pos (omega arith)
 one-times (negsuc n) = ap (λ (m : ℕ). negℤ (pos m)) (once (suc n))
   where

@@ -1,6 +1,6 @@
 -- Condition 3's sum so far, row numbers counted up, and the numbers of the lines. Assumes nothing.
 use mathlib.Core.Path.{_≡_, refl, sym, ap, _∙_, subst}
-use mathlib.Core.List.{List, [], _∷_, _++_, map, List·Memᴰ}
+use mathlib.Core.List.{List, [], _∷_, _++_, List·Memᴰ}
 use Prim.Native.Nat.{ℕ, zero, suc, _+_, _-_, _*_, _≤_, _<_}
 use native.Mathlib.Nat.{add-zero}
 use native.Mathlib.Numerals.{add-one}
@@ -22,6 +22,7 @@ use Rattle.laws.proofs.Text.Listings.{order-length, order-in}
 use Rattle.laws.proofs.Lists.Over.{over-at}
 use Rattle.laws.proofs.Lists.First.{up-length, up-more}
 use Rattle.laws.proofs.Constants.Wanted.{wanted-in}
+use Rattle.laws.proofs.Lists.Index.{at-map}
 use Rattle.listing.specs.Parts.{InRows, printed}
 
 -- ---- the sum so far, and one more
@@ -56,11 +57,6 @@ abs-zero (pos n) e = ap pos e
 abs-zero (negsuc n) e = absurd (omega arith)
 
 -- ---- the numbers of the line at a place
-
-at-map : {A B : Type 0} (f : A → B) (xs : List A) (k : ℕ) (d : A) (e : B) → k < length xs → getD (map f xs) k e ≡ f (getD xs k d)
-at-map f [] k d e h = absurd (omega arith)
-at-map f (x ∷ xs) zero d e h = refl
-at-map f (x ∷ xs) (suc k) d e h = at-map f xs k d e (omega arith)
 
 module _ (w : ℤ) (xs : List Row) (order : List ℕ) where
   pub rows-length : length (rowsBy w xs order) ≡ length order

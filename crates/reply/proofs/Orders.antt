@@ -1,29 +1,28 @@
 -- A job that is not malformed: a graph that was drawn for it and its listing, and the replies. Assumes nothing.
-use mathlib.Core.Path.{_≡_, refl, ap, _∙_, subst}
+use mathlib.Core.Path.{_≡_, refl, ap, _∙_}
 use mathlib.Core.Bool.{Bool, true, false}
 use mathlib.Core.List.{List, []}
 use Prim.Native.Nat.{ℕ, _≤_, _<_}
 use native.Mathlib.Omega.{arith}
 use lib.IntN.{ℤ, pos, negsuc, natAbs}
-use lib.ListN.{length, getD}
+use lib.ListN.{getD}
 use lib.Signed.{ltZ}
 use borrow.Author.Tests.{ltb-true}
 use mir.Syntax.{w32}
 use mir.Val.{SFits}
-use Rattle.meaning.specs.declared.Answer.{Answer}
 use Rattle.meaning.specs.declared.Answer.the-variants.{Accepted, Refused}
 use Rattle.meaning.specs.declared.Head.{Head}
 use Rattle.meaning.specs.declared.Refusal.{Refusal}
 use Rattle.meaning.specs.declared.Refusal.the-variants as no
 use Rattle.meaning.specs.declared.Row.{Row}
 use Rattle.meaning.specs.Basics.{all}
-use Rattle.meaning.specs.Job.{Asked, natural, bitsOf, inputOf, jobOrder}
-use Rattle.meaning.specs.Listing.{graphIn, listingOf, orRefused, refusedLine, replyTo, listing, textRoom}
+use Rattle.meaning.specs.Job.{Asked, natural, bitsOf, inputOf}
+use Rattle.meaning.specs.Listing.{graphIn, listingOf, refusedLine, replyTo, listing, textRoom}
 use Rattle.meaning.specs.Limits.{widthTests}
-use Rattle.meaning.specs.Refusals.{firstOf, admitted}
-use Rattle.laws.proofs.Refusals.Checked.{GoodWidth, good-of}
-use Rattle.laws.proofs.Text.Jobs.{job-stops, job-passes}
-use Rattle.laws.proofs.Text.Listings.{listing-room}
+use Rattle.meaning.specs.Refusals.{admitted}
+use Rattle.laws.proofs.Refusals.Checked.{good-of}
+use Rattle.laws.proofs.Text.Jobs.{reply-by, job-stops, job-passes}
+use Rattle.laws.proofs.Text.Room.{graph-room}
 use Rattle.laws.proofs.Refusals.Stages.{stops, passes}
 use Rattle.listing.specs.Parts.{Listable}
 use Rattle.reply.specs.Drawing.{Drawing}
@@ -38,10 +37,6 @@ pub not-below : (z : ℤ) → ltZ z (pos 0) ≡ false → natAbs z ≡ natural z
 not-below (pos n) e = refl
 not-below (negsuc n) e = absurd (let z : _≡_ {A = ℕ} 0 1 = cc in omega arith)
 
-positive : (z : ℤ) → 1 ≤ natural z → pos (natural z) ≡ z
-positive (pos n) h = refl
-positive (negsuc n) h = absurd (omega arith)
-
 -- ---- a graph that was drawn
 
 module _ (h : Head) (ts : List ℤ) (w : List ℕ) (n : ℕ) (d : Drawing (bitsOf h) ts w n) where
@@ -51,27 +46,17 @@ module _ (h : Head) (ts : List ℤ) (w : List ℕ) (n : ℕ) (d : Drawing (bitsO
   drawn-listing = ap (λ (xs : List Row). listingOf (record { head = h; rows = xs; targets = ts })) (d .rows-are)
 
   module _ (low : 2 ≤ inputOf h) (high : inputOf h ≤ 32) (fit : (i : ℕ) → SFits w32 (getD ts i (pos 0))) where
-    good : GoodWidth (bitsOf h) ts n w (inputOf h)
-    good = record { good = good-of (bitsOf h) ts n w (d .accepted); width = (low, high) }
-
     -- and there is room for it
     pub drawn-listable : (room : ℕ) → textRoom ≤ room → Listable h ts n w room
     drawn-listable room r =
-        let g = good .good in
-        let b = g .admits .bits in
-        let e : _≡_ {A = Head} (record { bits = pos (bitsOf h); input = pos (inputOf h); «by_width» = h .«by_width» }) h =
-        λ i. record { bits = positive (h .bits) (omega arith) i; input = positive (h .input) (omega arith) i; «by_width» = h .«by_width» } in
-        let l = subst (λ (k : Head). length (listingOf (graphIn k ts n w)) ≤ textRoom) e (listing-room (bitsOf h) ts n w (inputOf h) (h .«by_width») good fit) in
+        let g = good-of (bitsOf h) ts n w (d .accepted) in
+        let l = graph-room h ts n w (record { good = g; width = (low, high) }) fit in
         record { few = g .room .0; within = g .room .1; targets = g .admits .list .1; fits = omega arith }
 
 -- ---- the replies
 
 abbrev pub all-tests : ℕ → Bool
 all-tests w = all (widthTests w)
-
-reply-by : (j : Asked) (a : Answer) → firstOf (jobOrder j) ≡ a → replyTo j ≡ orRefused a (listing j)
-unfolding replyTo
-reply-by j a e = ap (λ (x : Answer). orRefused x (listing j)) e
 
 module _ (j : Asked) (e : admitted (bitsOf (j .head)) (j .targets) ≡ Accepted) where
   pub reply-width : (all-tests (inputOf (j .head)) ≡ false) → replyTo j ≡ refusedLine no.Width

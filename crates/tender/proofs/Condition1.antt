@@ -1,116 +1,122 @@
 -- Condition 1 holds. Assumes nothing.
 use mathlib.Core.Path.{_≡_, refl, sym, ap, _∙_, subst}
-use mathlib.Core.Bool.{Bool, true, false, cond}
-use mathlib.Core.List.{List, [], _∷_, _++_, map, List·Memᴰ, List·Permᴰ}
+use mathlib.Core.Bool.{Bool, true, false, cond, _&&_}
+use mathlib.Core.List.{List, [], _∷_, _++_, List·Memᴰ}
 use mathlib.Core.Logic.{inl, inr, ⊎-elim, _↔_}
-use Prim.Native.Nat.{ℕ, _+_, _-_, _*_, _%_, _^_, _≤_, _<_}
+use Prim.Native.Nat.{ℕ, _+_, _*_, _%_, _^_, _≤_, _<_}
 use native.Mathlib.Omega.{arith}
 use lib.Dec.{T, leb, ltb, eqb, leb→le, le→leb, ltb→lt, lt→ltb, eqb→eq}
-use lib.IntN.{ℤ, pos, negsuc}
-use mir.Syntax.{w32}
-use mir.Val.{SFits}
-use lib.ListN.{length, getD}
+use lib.IntN.{ℤ}
+use lib.ListN.{length}
 use Rattle.meaning.specs.declared.Answer.{Answer}
 use Rattle.meaning.specs.declared.Answer.the-variants.{Accepted, Refused}
 use Rattle.meaning.specs.declared.Drawn.the-variants as drew
 use Rattle.meaning.specs.declared.Far.{Far}
 use Rattle.meaning.specs.declared.Far.the-variants as far
+use Rattle.meaning.specs.declared.Formed.the-variants as formed
 use Rattle.meaning.specs.declared.Printed.the-variants as printed
 use Rattle.meaning.specs.declared.Refusal.{Refusal}
 use Rattle.meaning.specs.declared.Refusal.the-variants as no
 use Rattle.meaning.specs.declared.Row.{Row}
-use Rattle.meaning.specs.Basics.{all, any, has, First, upFrom, over}
-use Rattle.meaning.specs.Limits.{limit, mostRows, mostReady}
+use Rattle.meaning.specs.Basics.{all, any, has, First, over}
+use Rattle.meaning.specs.Limits.{limit, mostRows}
 use Rattle.meaning.specs.Constants.{oddOf}
 use Rattle.meaning.specs.Distance.{distance, reach?, serves?, candidates}
-use Rattle.meaning.specs.Operation.{Odd}
-use Rattle.meaning.specs.Graph.{RowsIn, rowLength, rowTests, rows, values, Fits, fits?, served?}
+use Rattle.meaning.specs.Graph.{rowLength, rowTests, rows, values, fits?, served?}
 use Rattle.meaning.specs.Generator.{generated}
-use Rattle.meaning.specs.Job.{Asked, Job, asks, jobOf, jobOrder, natural}
-use Rattle.meaning.specs.Widths.{rowWidth, InOrder}
-use Rattle.meaning.specs.Listing.{rowOrder, orRefused, replyTo, listing, jobText, printedTold, textWritten, textRoom}
-use Rattle.meaning.specs.Refusals.{need, needEach, number, Done, given, drawnAs, farAs, firstOf, admitOrder, checkOrder, sizedOrder, productsOrder, widthsOrder, rankingOrder, generateOrder, distanceOrder, oddParts, buffer, rowCount, validRows, allServed, fewRows, inputWidth, readyValues, target, admitted, checked, multiplied, productsWritten, measured, widthsWritten, ranked, rankingWritten, drawn, drawnTold, rowsWritten, distanceTold}
-use Rattle.laws.proofs.Lists.Tests.{All, all-of, of-all, false-of, T-of, both-of, of-both, either-of, of-left, of-right, eq→eqb}
-use Rattle.laws.proofs.Text.Jobs.{malformed-text, asked-text}
-use Rattle.laws.proofs.Text.Listings.{order-permutes, ranking-any}
-use Rattle.laws.proofs.Widths.Ranking.{ranking-ordered}
-use Rattle.laws.proofs.Text.ReadBack.{read-back}
+use Rattle.meaning.specs.Digits.{nonzeros, formOf}
+use Rattle.meaning.specs.Listing.{jobText, printedTold, textWritten}
+use Rattle.meaning.specs.Job.{Asked, bitsOf, inputOf, jobOrder}
+use Rattle.meaning.specs.Refusals.{need, needEach, oddParts, number, placeOf, given, drawnAs, farAs, formedAs, firstOf, admitOrder, checkOrder, sizedOrder, productsOrder, widthsOrder, rankingOrder, generateOrder, distanceOrder, buffer, rowCount, validRows, allServed, fewRows, inputWidth, readyValues, target, admitted, checked, sized, multiplied, productsWritten, measured, widthsWritten, ranked, rankingWritten, drawn, drawnTold, rowsWritten, distanceTold, apartTold, apartWritten, canonicTold, canonicWritten}
+use Rattle.laws.proofs.Lists.Tests.{All, all-of, of-all, false-of, both-of, of-both, either-of, of-left, of-right, eq→eqb}
 use Rattle.laws.proofs.Lists.Has.{in-has, has-in}
-use Rattle.laws.proofs.Refusals.Stages.{never-both, refused-same, need-refuses, one-answer, one-done, over-none}
+use Rattle.laws.proofs.Refusals.Stages.{never-both, refused-same, need-refuses, over-none}
 use Rattle.laws.proofs.Refusals.Members.{each-refuses, refuses-each}
-use Rattle.laws.proofs.Graph.Rows.{length-values, fits-of-test, test-of-fits}
-use Rattle.tender.specs.Condition1.{Situation, Signed32, oddPartOut, bufferShort, rowCountOut, rowInvalid, oddPartMissing, rowsOver, widthOut, readyValueOut, targetOut, RefusedBy, admitTable, checkTable, sizedTable, generateTable, distanceTable, jobTable, Condition1}
+use Rattle.tender.specs.Words.{ValidRow}
+use Rattle.tender.specs.Table.{Line, FirstOf, line3, line4, line5, line6, line7, line8, line9, line10values, line11, jobLines, admitTable, checkTable, widthTable, generateTable, distanceTable}
+use Rattle.meaning.specs.Calls.{Admits, Checks, ChecksWidth, Distances, TakesApart, WritesForm, Generates, Multiplies, Measures, Ranks, Prints}
+use Rattle.tender.specs.Condition1.{IsRefusal, Refuses, RefusesLent}
+use Rattle.tender.proofs.Rows.{row-of-test, test-of-row}
 
--- ---- stages and their situations
+-- ---- stages and their lines
 
-abbrev Exactly : Answer → Situation → Type 0
-Exactly a S = (why : Refusal) → (a ≡ Refused why) ↔ S why
+-- a stage refuses exactly by its line
+abbrev Exactly : Answer → Line → Type 0
+Exactly a L = (N P : ℕ) → IsRefusal Refused a N P ↔ L N P
 
-abbrev Told : List Answer → List Situation → Type 0
+abbrev Told : List Answer → List Line → Type 0
 Told [] [] = Unit {0}
-Told [] (S ∷ Ss) = ⊥
+Told [] (L ∷ Ls) = ⊥
 Told (a ∷ xs) [] = ⊥
-Told (a ∷ xs) (S ∷ Ss) = Exactly a S × Told xs Ss
+Told (a ∷ xs) (L ∷ Ls) = Exactly a L × Told xs Ls
 
-told-append : (xs bs : List Answer) (Ss Ts : List Situation) → Told xs Ss → Told bs Ts → Told (xs ++ bs) (Ss ++ Ts)
-told-append [] bs [] Ts t u = u
-told-append [] bs (S ∷ Ss) Ts t u = absurd t
-told-append (a ∷ xs) bs [] Ts t u = absurd t
-told-append (a ∷ xs) bs (S ∷ Ss) Ts t u = (t .0, told-append xs bs Ss Ts (t .1) u)
+told-append : (xs bs : List Answer) (Ls Ms : List Line) → Told xs Ls → Told bs Ms → Told (xs ++ bs) (Ls ++ Ms)
+told-append [] bs [] Ms t u = u
+told-append [] bs (L ∷ Ls) Ms t u = absurd t
+told-append (a ∷ xs) bs [] Ms t u = absurd t
+told-append (a ∷ xs) bs (L ∷ Ls) Ms t u = (t .0, told-append xs bs Ls Ms (t .1) u)
 
-told-last : (xs : List Answer) (Ss : List Situation) → Told xs Ss → (a : Answer) (S : Situation) → Exactly a S → Told (xs ++ (a ∷ [])) (Ss ++ (S ∷ []))
-told-last xs Ss t a S e = told-append xs (a ∷ []) Ss (S ∷ []) t (e, tt)
+told-last : (xs : List Answer) (Ls : List Line) → Told xs Ls → (a : Answer) (L : Line) → Exactly a L → Told (xs ++ (a ∷ [])) (Ls ++ (L ∷ []))
+told-last xs Ls t a L e = told-append xs (a ∷ []) Ls (L ∷ []) t (e, tt)
 
--- the first stage that refuses is the first situation that holds
-exactly : (xs : List Answer) (Ss : List Situation) → Told xs Ss → Exactly (firstOf xs) (RefusedBy Ss)
-exactly [] [] t why = (λ e. never-both why e, λ x. absurd x)
-exactly [] (S ∷ Ss) t why = absurd t
-exactly (a ∷ xs) [] t why = absurd t
-exactly (Accepted ∷ xs) (S ∷ Ss) t why =
-    let rest = exactly xs Ss (t .1) why in (
-      λ e. inr (λ other h. never-both other (t .0 other .1 h), rest .0 e),
-      λ r. ⊎-elim (λ h. never-both why (t .0 why .1 h)) (λ p. rest .1 (p .1)) r,
+-- an acceptance is no refusal
+accepts : (N P : ℕ) → ¬ (IsRefusal Refused Accepted N P)
+accepts N P r = never-both (r .0) (r .1)
+
+-- the first stage that refuses is the first line whose situation holds
+pub exactly : (xs : List Answer) (Ls : List Line) → Told xs Ls → Exactly (firstOf xs) (FirstOf Ls)
+exactly [] [] t N P = (λ r. absurd (accepts N P r), λ x. absurd x)
+exactly [] (L ∷ Ls) t N P = absurd t
+exactly (a ∷ xs) [] t N P = absurd t
+exactly (Accepted ∷ xs) (L ∷ Ls) t N P =
+    let rest = exactly xs Ls (t .1) N P in (
+      λ e. inr (λ n p h. accepts n p (t .0 n p .1 h), rest .0 e),
+      λ r. ⊎-elim (λ h. absurd (accepts N P (t .0 N P .1 h))) (λ p. rest .1 (p .1)) r,
     )
-exactly (Refused y ∷ xs) (S ∷ Ss) t why = (
-  λ e. inl (t .0 why .0 e),
-  λ r. ⊎-elim (λ h. t .0 why .1 h) (λ p. absurd (p .0 y (t .0 y .0 refl))) r,
+exactly (Refused y ∷ xs) (L ∷ Ls) t N P = (
+  λ e. inl (t .0 N P .0 e),
+  λ r. ⊎-elim (λ h. t .0 N P .1 h) (λ p. absurd (p .0 (number y) (placeOf y) (t .0 (number y) (placeOf y) .0 (y, refl, refl, refl)))) r,
 )
 
--- ---- a condition on the whole
+-- ---- a line on the whole
 
-needs : (y : Refusal) (tests : List Bool) (P : Type 0) → (All tests → P) → (P → All tests) → Exactly (need y tests) (λ why. (why ≡ y) × (¬ P))
-needs y tests P f g why = (
-  λ e. let (n, q) = need-refuses y why tests e in (sym q, λ p. subst T n (of-all tests (g p))),
-  λ h. rw (false-of (all tests) (λ t. h .1 (f (all-of tests t)))) (ap Refused (sym (h .0))),
+needs : (y : Refusal) (tests : List Bool) (Q : Type 0) → (All tests → Q) → (Q → All tests)
+    → Exactly (need y tests) (λ N P. (N ≡ number y) × (P ≡ placeOf y) × (¬ Q))
+needs y tests Q f g N P = (
+  λ r. let (n, q) = need-refuses y (r .0) tests (r .1) in
+      (sym (r .2) ∙ ap number (sym q), sym (r .3) ∙ ap placeOf (sym q), λ p. subst T n (of-all tests (g p))),
+  λ h. (y, rw (false-of (all tests) (λ t. h .2 (f (all-of tests t)))) refl, sym (h .0), sym (h .1)),
 )
 
 -- two bounds
-between : (y : Refusal) (low n high : ℕ) → Exactly (need y (leb low n ∷ leb n high ∷ [])) (λ why. (why ≡ y) × (¬ ((low ≤ n) × (n ≤ high))))
+between : (y : Refusal) (low n high : ℕ) → Exactly (need y (leb low n ∷ leb n high ∷ [])) (λ N P. (N ≡ number y) × (P ≡ placeOf y) × (¬ ((low ≤ n) × (n ≤ high))))
 between y low n high =
     needs y (leb low n ∷ leb n high ∷ []) ((low ≤ n) × (n ≤ high)) (λ t. (leb→le _ _ (t .0), leb→le _ _ (t .1 .0))) (λ p. (le→leb _ _ (p .0), (le→leb _ _ (p .1), tt)))
 
 -- one bound
-above : (y : Refusal) (n high : ℕ) → Exactly (need y (leb n high ∷ [])) (λ why. (why ≡ y) × (high < n))
-above y n high why =
-    let p = needs y (leb n high ∷ []) (n ≤ high) (λ t. leb→le _ _ (t .0)) (λ h. (le→leb _ _ h, tt)) why in (
-      λ e. let q = p .0 e in (q .0, let z = q .1 in omega arith),
-      λ h. p .1 (h .0, λ z. omega (arith, h .1)),
+above : (y : Refusal) (n high : ℕ) → Exactly (need y (leb n high ∷ [])) (λ N P. (N ≡ number y) × (P ≡ placeOf y) × (high < n))
+above y n high N P =
+    let p = needs y (leb n high ∷ []) (n ≤ high) (λ t. leb→le _ _ (t .0)) (λ h. (le→leb _ _ h, tt)) N P in (
+      λ e. let q = p .0 e in (q .0, q .1, let z = q .2 in omega arith),
+      λ h. p .1 (h .0, h .1, λ z. omega (arith, h .2)),
     )
 
--- ---- a condition on each member, seen after those before it
+-- ---- a line on each member, seen after those before it
 
-eaches : {A : Type 0} (y : ℕ → Refusal) (test : List A → A → Bool) (P : List A → A → Type 0) → ((b : List A) (x : A) → T (test b x) → ¬ (P b x))
-    → ((b : List A) (x : A) → test b x ≡ false → P b x) → (xs : List A) → Exactly (needEach y test [] xs) (λ why. (p : ℕ) × (why ≡ y p) × First P xs p)
-eaches y test P no-p is-p xs why = (
-  λ e. let (p, f, q) = each-refuses y test P no-p is-p xs why e in (p, q, f),
-  λ h. refuses-each y test P no-p is-p xs (h .0) (h .2) ∙ ap Refused (sym (h .1)),
+eaches : {A : Type 0} (y : ℕ → Refusal) (K : ℕ) → ((p : ℕ) → (number (y p) ≡ K) × (placeOf (y p) ≡ p)) → (test : List A → A → Bool) (Q : List A → A → Type 0)
+    → ((b : List A) (x : A) → T (test b x) → ¬ (Q b x)) → ((b : List A) (x : A) → test b x ≡ false → Q b x) → (xs : List A)
+    → Exactly (needEach y test [] xs) (λ N P. (N ≡ K) × First Q xs P)
+eaches y K line test Q no-q is-q xs N P = (
+  λ r. let (p, f, q) = each-refuses y test Q no-q is-q xs (r .0) (r .1) in
+      (sym (r .2) ∙ ap number q ∙ line p .0, subst (First Q xs) (sym (line p .1) ∙ sym (ap placeOf q) ∙ r .3) f),
+  λ h. (y P, refuses-each y test Q no-q is-q xs P (h .1), line P .0 ∙ sym (h .0), line P .1),
 )
 
 -- ---- the stages of the calls
 
-odd-parts : (b : ℕ) (ts : List ℤ) → Exactly (oddParts b ts) (oddPartOut b ts)
+odd-parts : (b : ℕ) (ts : List ℤ) → Exactly (oddParts b ts) (line3 b ts)
 odd-parts b ts =
-    eaches no.OddPart _ (λ _ t. 2 ^ b ≤ oddOf t) (λ _ t h k. omega (arith, ltb→lt (oddOf t) (2 ^ b) h)) (λ _ t e. above-of (oddOf t) (2 ^ b) e) ts
+    eaches no.OddPart 3 (λ p. (refl, refl)) _ (λ _ t. 2 ^ b ≤ oddOf t) (λ _ t h k. omega (arith, ltb→lt (oddOf t) (2 ^ b) h)) (λ _ t e. above-of (oddOf t) (2 ^ b) e) ts
   where
     above-of : (m n : ℕ) → ltb m n ≡ false → n ≤ m
     above-of m n e = go (λ h. subst T e (lt→ltb m n h))
@@ -118,10 +124,10 @@ odd-parts b ts =
         go : (m < n → ⊥) → n ≤ m
         go f = omega arith
 
-valid-rows : (b : ℕ) (xs : List Row) → Exactly (validRows b xs) (rowInvalid b xs)
+valid-rows : (b : ℕ) (xs : List Row) → Exactly (validRows b xs) (line6 b xs)
 valid-rows b xs =
-    eaches no.Row (fits? (limit b)) (λ before x. ¬ (Fits (limit b) before x)) (λ before x t n. n (fits-of-test (limit b) before x t))
-    (λ before x e f. subst T e (test-of-fits (limit b) before x f)) xs
+    eaches no.Row 6 (λ p. (refl, refl)) (fits? (limit b)) (λ before x. ¬ (ValidRow b before x)) (λ before x t n. n (row-of-test b before x t))
+    (λ before x e f. subst T e (test-of-row b before x f)) xs
 
 -- a target is served exactly if its odd part is at most 1 or some row's value
 module _ (xs : List Row) where
@@ -143,60 +149,77 @@ module _ (xs : List Row) where
       over-one : (oddOf t ≤ 1 → ⊥) → 1 < oddOf t
       over-one f = omega arith
 
-ready-values : (b : ℕ) (vals : List ℕ) → Exactly (readyValues b vals) (readyValueOut b vals)
+ready-values : (b : ℕ) (vals : List ℕ) → Exactly (readyValues b vals) (line10values b vals)
 ready-values b vals =
-    eaches no.Ready _ (λ _ v. ¬ (Odd (limit b) v))
+    eaches no.Ready 10 (λ p. (refl, refl)) _ (λ _ v. ¬ ((v % 2 ≡ 1) × (v < 2 ^ (b + 1))))
     (λ _ v h n. let q = both-of (eqb (v % 2) 1) (ltb v (2 ^ limit b)) h in n (eqb→eq _ _ (q .0), ltb→lt _ _ (q .1)))
     (λ _ v e p. subst T e (of-both (eqb (v % 2) 1) (ltb v (2 ^ limit b)) (eq→eqb _ _ (p .0)) (lt→ltb _ _ (p .1)))) vals
 
 admit-told : (b : ℕ) (ts : List ℤ) → Told (admitOrder b ts) (admitTable b ts)
 admit-told b ts = (between no.Bits 2 b 16, (between no.List 1 (length ts) 16, (odd-parts b ts, tt)))
 
-row-count : (n : ℕ) (w : List ℕ) → Exactly (rowCount n w) (rowCountOut n w)
+row-count : (n : ℕ) (w : List ℕ) → Exactly (rowCount n w) (line5 n w)
 row-count n w =
-    needs no.RowCount (rowTests n w) (RowsIn n w)
+    needs no.RowCount (rowTests n w) ((n ≤ 128) × (7 * n ≤ length w))
     (λ t. (leb→le _ _ (t .0), leb→le _ _ (t .1 .0))) (λ p. (le→leb _ _ (p .0), (le→leb _ _ (p .1), tt)))
 
-target-told : (b c : ℕ) → Exactly (target b c) (targetOut b c)
+target-told : (b c : ℕ) → Exactly (target b c) (line11 b c)
 target-told b c =
-    needs no.Target (eqb (c % 2) 1 ∷ ltb c (2 ^ b) ∷ []) (Odd b c) (λ t. (eqb→eq _ _ (t .0), ltb→lt _ _ (t .1 .0)))
+    needs no.Target (eqb (c % 2) 1 ∷ ltb c (2 ^ b) ∷ []) ((c % 2 ≡ 1) × (c < 2 ^ b)) (λ t. (eqb→eq _ _ (t .0), ltb→lt _ _ (t .1 .0)))
     (λ p. (eq→eqb _ _ (p .0), (lt→ltb _ _ (p .1), tt)))
 
 check-told : (b : ℕ) (ts : List ℤ) (n : ℕ) (w : List ℕ) → Told (checkOrder b ts n w) (checkTable b ts n w)
 check-told b ts n w =
     let xs = rows n w in
     told-append (admitOrder b ts) (rowCount n w ∷ validRows b xs ∷ allServed xs ts ∷ []) (admitTable b ts)
-    (rowCountOut n w ∷ rowInvalid b xs ∷ oddPartMissing xs ts ∷ []) (admit-told b ts)
-    (row-count n w, (valid-rows b xs, (eaches no.Unserved _ (λ _ t. Missing xs t) (λ _ t. served-not xs t) (λ _ t. missing-is xs t) ts, tt)))
+    (line5 n w ∷ line6 b xs ∷ line7 xs ts ∷ []) (admit-told b ts)
+    (row-count n w, (valid-rows b xs, (eaches no.Unserved 7 (λ p. (refl, refl)) _ (λ _ t. Missing xs t) (λ _ t. served-not xs t) (λ _ t. missing-is xs t) ts, tt)))
 
-sized-told : (b : ℕ) (ts : List ℤ) (n : ℕ) (w : List ℕ) (input : ℕ) → Told (sizedOrder b ts n w input) (sizedTable b ts n w input)
-sized-told b ts n w input = told-last (checkOrder b ts n w) (checkTable b ts n w) (check-told b ts n w) (inputWidth input) (widthOut input) (between no.Width 2 input 32)
+width-told : (b : ℕ) (ts : List ℤ) (n : ℕ) (w : List ℕ) (input : ℕ) → Told (sizedOrder b ts n w input) (widthTable b ts n w input)
+width-told b ts n w input = told-last (checkOrder b ts n w) (checkTable b ts n w) (check-told b ts n w) (inputWidth input) (line9 input) (between no.Width 2 input 32)
 
 generate-told : (b : ℕ) (ts : List ℤ) (room : ℕ) → Told (generateOrder b ts room) (generateTable b ts room)
 generate-told b ts room =
     let xs = generated b ts in
     told-append (admitOrder b ts) (buffer (rowLength * mostRows) room ∷ fewRows xs ∷ []) (admitTable b ts)
-    (bufferShort (rowLength * mostRows) room ∷ rowsOver xs ∷ []) (admit-told b ts)
-    (above no.Buffer (rowLength * mostRows) room, (above no.TooManyRows (length xs) mostRows, tt))
+    (line4 896 room ∷ line8 xs ∷ []) (admit-told b ts)
+    (above no.Buffer 896 room, (above no.TooManyRows (length xs) 128, tt))
 
 distance-stages : (b : ℕ) (vals : List ℕ) (c : ℕ) → Told (distanceOrder b vals c) (distanceTable b vals c)
 distance-stages b vals c =
-    (between no.Bits 2 b 16, (between (no.Ready 0) 1 (length vals) mostReady, (ready-values b vals, (target-told b c, tt))))
+    (between no.Bits 2 b 16, (between (no.Ready 0) 1 (length vals) 129, (ready-values b vals, (target-told b c, tt))))
 
-job-told : (j : Asked) → Told (jobOrder j) (jobTable j)
+-- the stages of a job, and their lines
+pub job-told : (j : Asked) → Told (jobOrder j) (jobLines j)
 job-told j =
-    let b = natural (j .head .bits) in
-    let w = natural (j .head .input) in
+    let b = bitsOf (j .head) in
     let xs = generated b (j .targets) in
-    told-append (admitOrder b (j .targets)) (fewRows xs ∷ inputWidth w ∷ []) (admitTable b (j .targets)) (rowsOver xs ∷ widthOut w ∷ []) (admit-told b (j .targets))
-    (above no.TooManyRows (length xs) mostRows, (between no.Width 2 w 32, tt))
+    told-append (admitOrder b (j .targets)) (fewRows xs ∷ inputWidth (inputOf (j .head)) ∷ []) (admitTable b (j .targets))
+    (line8 xs ∷ line9 (inputOf (j .head)) ∷ []) (admit-told b (j .targets))
+    (above no.TooManyRows (length xs) 128, (between no.Width 2 (inputOf (j .head)) 32, tt))
 
--- ---- answers of other shapes
+-- ---- calls whose answers are of this shape, or of another
+
+both-ways : {A B C : Type 0} → A ↔ B → B ↔ C → A ↔ C
+both-ways f g = (λ p. g .0 (f .0 p), λ r. f .1 (g .1 r))
+
+-- a refusal is handed on as one of another shape, and nothing else is
+module _ {R : Type 0} (refused : Refusal → R) (r : R) (a : Answer) (same : (why : Refusal) → (r ≡ refused why) ↔ (a ≡ Refused why)) where
+  handed : (N P : ℕ) → IsRefusal refused r N P ↔ IsRefusal Refused a N P
+  handed N P = (
+    λ q. (q .0, same (q .0) .0 (q .1), q .2, q .3),
+    λ q. (q .0, same (q .0) .1 (q .1), q .2, q .3),
+  )
 
 -- the generator's
 drawn-told : (a : Answer) (n : ℕ) (why : Refusal) → (drawnAs a n ≡ drew.Refused why) ↔ (a ≡ Refused why)
 drawn-told Accepted n why = (λ e. absurd (let z : _≡_ {A = ℕ} 0 1 = cc in omega arith), λ e. never-both why e)
 drawn-told (Refused y) n why = (λ e. cc, λ e. ap drew.Refused (refused-same y why e))
+
+-- a form's
+formed-told : (a : Answer) (n : ℕ) (why : Refusal) → (formedAs a n ≡ formed.Refused why) ↔ (a ≡ Refused why)
+formed-told Accepted n why = (λ e. absurd (let z : _≡_ {A = ℕ} 0 1 = cc in omega arith), λ e. never-both why e)
+formed-told (Refused y) n why = (λ e. cc, λ e. ap formed.Refused (refused-same y why e))
 
 -- the distance is never a refusal by itself
 far-told : (a : Answer) (d : Far) (why : Refusal) → ((y : Refusal) → ¬ (d ≡ far.Refused y)) → (farAs a d ≡ far.Refused why) ↔ (a ≡ Refused why)
@@ -213,166 +236,132 @@ distance-answers L vals c y = go (has vals c) (reach? L vals c) (any (serves? L 
     go false false true e = let z : _≡_ {A = ℕ} 0 1 = cc in omega arith
     go false false false e = let z : _≡_ {A = ℕ} 0 1 = cc in omega arith
 
-both-ways : {P Q R : Type 0} → P ↔ Q → Q ↔ R → P ↔ R
-both-ways f g = (λ p. g .0 (f .0 p), λ r. f .1 (g .1 r))
+-- the stages' answer, given as r
+module _ (xs : List Answer) (Ls : List Line) (t : Told xs Ls) where
+  by-stages : (r : Answer) → r ≡ firstOf xs → (N P : ℕ) → IsRefusal Refused r N P ↔ FirstOf Ls N P
+  by-stages r e N P = both-ways (λ q. (q .0, sym e ∙ q .1, q .2, q .3), λ q. (q .0, e ∙ q .1, q .2, q .3)) (exactly xs Ls t N P)
+
+  by-handed : {R : Type 0} (refused : Refusal → R) (r d : R) → r ≡ d → ((why : Refusal) → (d ≡ refused why) ↔ (firstOf xs ≡ Refused why))
+      → (N P : ℕ) → IsRefusal refused r N P ↔ FirstOf Ls N P
+  by-handed refused r d e same N P =
+      both-ways (handed refused r (firstOf xs) (λ why. (λ q. same why .0 (sym e ∙ q), λ q. e ∙ same why .1 q)) N P) (exactly xs Ls t N P)
 
 -- ---- what is written on refusal
 
-quiet : {A : Type 0} (a : Answer) (why : Refusal) (ws before now : List A) → Refused why ≡ a → now ≡ over (given a ws) before → now ≡ before
-quiet Accepted why ws before now e f = never-both why (sym e)
-quiet (Refused y) why ws before now e f = f ∙ over-none before
-
--- ---- a job's text
-
-module _ (s : List ℕ) where
-  told-text : (j : Asked) (a : Answer) → jobOf s ≡ asks j → firstOf (jobOrder j) ≡ a → jobText s ≡ orRefused a (listing j)
-  unfolding replyTo
-  told-text j a e f = asked-text s j e ∙ ap (λ (x : Answer). orRefused x (listing j)) f
-
-  listed-text : (j : Asked) → jobOf s ≡ asks j → ((why : Refusal) → ¬ (RefusedBy (jobTable j) why)) → jobText s ≡ listing j
-  listed-text j e n = go (firstOf (jobOrder j)) refl
-    where
-      go : (a : Answer) → firstOf (jobOrder j) ≡ a → jobText s ≡ listing j
-      go Accepted f = told-text j Accepted e f
-      go (Refused why) f = absurd (n why (exactly (jobOrder j) (jobTable j) (job-told j) why .0 f))
-
--- the call's buffer
-module _ (s : List ℕ) (room : ℕ) where
-  printed-told : (why : Refusal) → (printedTold s room ≡ printed.Refused why) ↔ RefusedBy (bufferShort textRoom room ∷ []) why
-  unfolding printedTold
-  printed-told why = go (leb textRoom room) refl
-    where
-      go : (b : Bool) → leb textRoom room ≡ b → (cond b (printed.Bytes (length (jobText s))) (printed.Refused no.Buffer) ≡ printed.Refused why) ↔ RefusedBy (bufferShort textRoom room ∷ []) why
-      go true e = (
-        λ f. absurd (let z : _≡_ {A = ℕ} 0 1 = cc in omega arith),
-        λ r. ⊎-elim (λ h. absurd (let z = leb→le textRoom room (T-of e) in omega (arith, h .1))) (λ p. absurd (p .1)) r,
-      )
-      go false e = (
-        λ f. let q : no.Buffer ≡ why = cc in inl (sym q, short (λ h. subst T e (le→leb textRoom room h))),
-        λ r. ⊎-elim (λ h. ap printed.Refused (sym (h .0))) (λ p. absurd (p .1)) r,
-      )
-        where
-          short : (textRoom ≤ room → ⊥) → room < textRoom
-          short n = omega arith
-
-  printed-quiet : (why : Refusal) (before now : List ℕ) → printed.Refused why ≡ printedTold s room → now ≡ over (textWritten s room) before → now ≡ before
-  unfolding printedTold textWritten
-  printed-quiet why before now e f = go (leb textRoom room) e f
-    where
-      go : (b : Bool) → printed.Refused why ≡ cond b (printed.Bytes (length (jobText s))) (printed.Refused no.Buffer) → now ≡ over (cond b (jobText s) []) before → now ≡ before
-      go true e f = absurd (let z : _≡_ {A = ℕ} 0 1 = cc in omega arith)
-      go false e f = f ∙ over-none before
-
-numbered : (why : Refusal) → (1 ≤ number why) × (number why ≤ 12)
-numbered no.Bits = (omega arith, omega arith)
-numbered no.List = (omega arith, omega arith)
-numbered (no.OddPart p) = (omega arith, omega arith)
-numbered no.Buffer = (omega arith, omega arith)
-numbered no.RowCount = (omega arith, omega arith)
-numbered (no.Row p) = (omega arith, omega arith)
-numbered (no.Unserved p) = (omega arith, omega arith)
-numbered no.TooManyRows = (omega arith, omega arith)
-numbered no.Width = (omega arith, omega arith)
-numbered (no.Ready p) = (omega arith, omega arith)
-numbered no.Target = (omega arith, omega arith)
-numbered (no.Job p) = (omega arith, omega arith)
+still : {A : Type 0} (a : Answer) (why : Refusal) (ws before after : List A) → a ≡ Refused why → after ≡ over (given a ws) before → after ≡ before
+still Accepted why ws before after e f = never-both why e
+still (Refused y) why ws before after e f = f ∙ over-none before
 
 -- ---- the calls
 
 module _ (b : ℕ) (ts : List ℤ) where
-  admits : Exactly (admitted b ts) (RefusedBy (admitTable b ts))
+  pub admit : Refuses Refused (Admits b ts) (admitTable b ts)
   unfolding admitted
-  admits = exactly (admitOrder b ts) (admitTable b ts) (admit-told b ts)
+  admit = by-stages (admitOrder b ts) (admitTable b ts) (admit-told b ts)
 
-  draws : (room : ℕ) (why : Refusal) → (drawnTold b ts room ≡ drew.Refused why) ↔ RefusedBy (generateTable b ts room) why
-  unfolding drawnTold drawn
-  draws room why =
-      both-ways (drawn-told (firstOf (generateOrder b ts room)) (length (generated b ts)) why)
-      (exactly (generateOrder b ts room) (generateTable b ts room) (generate-told b ts room) why)
-
-  draws-quiet : (why : Refusal) (before now : List ℕ)
-      → Done (drawnTold b ts (length before)) (rowsWritten b ts (length before)) (drew.Refused why) before now → now ≡ before
-  unfolding drawnTold rowsWritten
-  draws-quiet why before now d =
-      quiet (drawn b ts (length before)) why _ before now (sym (drawn-told (drawn b ts (length before)) (length (generated b ts)) why .0 (sym (d .answers)))) (d .writes)
+  pub generate : RefusesLent drew.Refused (Generates b ts) (generateTable b ts)
+  unfolding drawnTold drawn rowsWritten
+  generate =
+      record {
+        exactly = λ r before after d.
+            by-handed (generateOrder b ts (length before)) (generateTable b ts (length before)) (generate-told b ts (length before)) drew.Refused r _ (d .answers)
+            (drawn-told (firstOf (generateOrder b ts (length before))) (length (generated b ts)));
+        quiet = λ why before after d.
+            still (firstOf (generateOrder b ts (length before))) why _ before after
+            (drawn-told (firstOf (generateOrder b ts (length before))) (length (generated b ts)) why .0 (sym (d .answers))) (d .writes);
+      }
 
   module _ (n : ℕ) (w : List ℕ) where
-    checks : Exactly (checked b ts n w) (RefusedBy (checkTable b ts n w))
+    pub check : Refuses Refused (Checks b ts n w) (checkTable b ts n w)
     unfolding checked
-    checks = exactly (checkOrder b ts n w) (checkTable b ts n w) (check-told b ts n w)
+    check = by-stages (checkOrder b ts n w) (checkTable b ts n w) (check-told b ts n w)
 
-    multiplies : (room : ℕ) → Exactly (multiplied b ts n w room) (RefusedBy (checkTable b ts n w ++ (bufferShort (length ts) room ∷ [])))
-    unfolding multiplied
-    multiplies room =
-        exactly (productsOrder b ts n w room) (checkTable b ts n w ++ (bufferShort (length ts) room ∷ []))
-        (told-last (checkOrder b ts n w) (checkTable b ts n w) (check-told b ts n w) (buffer (length ts) room) (bufferShort (length ts) room) (above no.Buffer (length ts) room))
+    pub check-width : (input : ℕ) → Refuses Refused (ChecksWidth b ts n w input) (widthTable b ts n w input)
+    unfolding sized
+    check-width input = by-stages (sizedOrder b ts n w input) (widthTable b ts n w input) (width-told b ts n w input)
 
-    measures : (input room : ℕ) → Exactly (measured b ts n w input room) (RefusedBy (sizedTable b ts n w input ++ (bufferShort (n + length ts) room ∷ [])))
-    unfolding measured
-    measures input room =
-        exactly (widthsOrder b ts n w input room) (sizedTable b ts n w input ++ (bufferShort (n + length ts) room ∷ []))
-        (told-last (sizedOrder b ts n w input) (sizedTable b ts n w input) (sized-told b ts n w input) (buffer (n + length ts) room) (bufferShort (n + length ts) room) (above no.Buffer (n + length ts) room))
+    pub multiply : (x : ℤ) → RefusesLent Refused (Multiplies b ts n w x) (λ room. checkTable b ts n w ++ (line4 (length ts) room ∷ []))
+    unfolding multiplied productsWritten
+    multiply x =
+        record {
+          exactly = λ r before after d.
+              by-stages (productsOrder b ts n w (length before)) (checkTable b ts n w ++ (line4 (length ts) (length before) ∷ []))
+              (told-last (checkOrder b ts n w) (checkTable b ts n w) (check-told b ts n w) (buffer (length ts) (length before)) (line4 (length ts) (length before)) (above no.Buffer (length ts) (length before)))
+              r (d .answers);
+          quiet = λ why before after d. still _ why _ before after (sym (d .answers)) (d .writes);
+        }
 
-    ranks : (input room : ℕ) → Exactly (ranked b ts n w input room) (RefusedBy (sizedTable b ts n w input ++ (bufferShort n room ∷ [])))
-    unfolding ranked
-    ranks input room =
-        exactly (rankingOrder b ts n w input room) (sizedTable b ts n w input ++ (bufferShort n room ∷ []))
-        (told-last (sizedOrder b ts n w input) (sizedTable b ts n w input) (sized-told b ts n w input) (buffer n room) (bufferShort n room) (above no.Buffer n room))
+    pub measure : (input : ℕ) → RefusesLent Refused (Measures b ts n w input) (λ room. widthTable b ts n w input ++ (line4 (n + length ts) room ∷ []))
+    unfolding measured widthsWritten
+    measure input =
+        record {
+          exactly = λ r before after d.
+              by-stages (widthsOrder b ts n w input (length before)) (widthTable b ts n w input ++ (line4 (n + length ts) (length before) ∷ []))
+              (told-last (sizedOrder b ts n w input) (widthTable b ts n w input) (width-told b ts n w input) (buffer (n + length ts) (length before)) (line4 (n + length ts) (length before)) (above no.Buffer (n + length ts) (length before)))
+              r (d .answers);
+          quiet = λ why before after d. still _ why _ before after (sym (d .answers)) (d .writes);
+        }
 
-    multiply-quiet : (x : ℤ) (why : Refusal) (before now : List ℤ)
-        → Done (multiplied b ts n w (length before)) (productsWritten b ts n w x (length before)) (Refused why) before now → now ≡ before
-    unfolding productsWritten
-    multiply-quiet x why before now d = quiet (multiplied b ts n w (length before)) why _ before now (d .answers) (d .writes)
+    pub rank : (input : ℕ) → RefusesLent Refused (Ranks b ts n w input) (λ room. widthTable b ts n w input ++ (line4 n room ∷ []))
+    unfolding ranked rankingWritten
+    rank input =
+        record {
+          exactly = λ r before after d.
+              by-stages (rankingOrder b ts n w input (length before)) (widthTable b ts n w input ++ (line4 n (length before) ∷ []))
+              (told-last (sizedOrder b ts n w input) (widthTable b ts n w input) (width-told b ts n w input) (buffer n (length before)) (line4 n (length before)) (above no.Buffer n (length before)))
+              r (d .answers);
+          quiet = λ why before after d. still _ why _ before after (sym (d .answers)) (d .writes);
+        }
 
-    measure-quiet : (input : ℕ) (why : Refusal) (before now : List ℕ)
-        → Done (measured b ts n w input (length before)) (widthsWritten b ts n w input (length before)) (Refused why) before now → now ≡ before
-    unfolding widthsWritten
-    measure-quiet input why before now d = quiet (measured b ts n w input (length before)) why _ before now (d .answers) (d .writes)
-
-    rank-quiet : (input : ℕ) (why : Refusal) (before now : List ℕ)
-        → Done (ranked b ts n w input (length before)) (rankingWritten b ts n w input (length before)) (Refused why) before now → now ≡ before
-    unfolding rankingWritten
-    rank-quiet input why before now d = quiet (ranked b ts n w input (length before)) why _ before now (d .answers) (d .writes)
-
-distances : (b : ℕ) (vals : List ℕ) (c : ℕ) (why : Refusal) → (distanceTold b vals c ≡ far.Refused why) ↔ RefusedBy (distanceTable b vals c) why
+pub distance-refuses : (b : ℕ) (vals : List ℕ) (c : ℕ) → Refuses far.Refused (Distances b vals c) (distanceTable b vals c)
 unfolding distanceTold
-distances b vals c why =
-    both-ways (far-told (firstOf (distanceOrder b vals c)) (distance (limit b) vals c) why (distance-answers (limit b) vals c))
-    (exactly (distanceOrder b vals c) (distanceTable b vals c) (distance-stages b vals c) why)
+distance-refuses b vals c r e =
+    by-handed (distanceOrder b vals c) (distanceTable b vals c) (distance-stages b vals c) far.Refused r _ e
+    (λ why. far-told (firstOf (distanceOrder b vals c)) (distance (limit b) vals c) why (distance-answers (limit b) vals c))
 
--- ---- what is printed
+-- a buffer alone
+module _ (needed room : ℕ) where
+  only : (a : Answer) → firstOf (a ∷ []) ≡ a
+  only Accepted = refl
+  only (Refused y) = refl
 
-fits : (z : ℤ) → Signed32 z → SFits w32 z
-fits (pos n) h = record { sfits = h }
-fits (negsuc n) h = record { sfits = h }
+  by-room : {R : Type 0} (refused : Refusal → R) (r d : R) → r ≡ d → ((why : Refusal) → (d ≡ refused why) ↔ (buffer needed room ≡ Refused why))
+      → (N P : ℕ) → IsRefusal refused r N P ↔ FirstOf (line4 needed room ∷ []) N P
+  by-room refused r d e same =
+      by-handed (buffer needed room ∷ []) (line4 needed room ∷ []) (above no.Buffer needed room, tt) refused r d e
+      (λ why. (λ q. only (buffer needed room) ∙ same why .0 q, λ q. same why .1 (sym (only (buffer needed room)) ∙ q)))
 
-once : (byWidth : Bool) (xs : List Row) → List·Permᴰ (rowOrder byWidth (values xs)) (upFrom 1 (length xs))
-once byWidth xs = subst (λ n. List·Permᴰ (rowOrder byWidth (values xs)) (upFrom 1 n)) (length-values xs) (order-permutes byWidth (values xs))
-
-pub condition1 : Condition1
-condition1 =
+pub apart : (t : ℤ) → RefusesLent Refused (TakesApart t) (λ room. line4 3 room ∷ [])
+unfolding apartTold apartWritten
+apart t =
     record {
-      admit = admits;
-      check = checks;
-      multiply = multiplies;
-      measure = measures;
-      rank = ranks;
-      generate = draws;
-      distance = distances;
-      job-malformed = malformed-text;
-      job-refused = λ s j why e r. told-text s j (Refused why) e (exactly (jobOrder j) (jobTable j) (job-told j) why .1 r);
-      job-listed = listed-text;
-      print = printed-told;
-      numbers-back = λ z front rest h e. read-back z front rest (fits z h) e;
-      rows-once = once;
-      rows-by-width = λ input xs. subst (InOrder (λ k. getD (map (rowWidth input) (values xs)) (k - 1) 0)) (ranking-any input (values xs)) (ranking-ordered input (values xs));
-      rows-by-number = λ xs. ap (upFrom 1) (length-values xs);
-      multiply-quiet = multiply-quiet;
-      measure-quiet = measure-quiet;
-      rank-quiet = rank-quiet;
-      generate-quiet = draws-quiet;
-      print-quiet = λ s why before now d. printed-quiet s (length before) why before now (d .answers) (d .writes);
-      numbered = numbered;
-      one-answer = one-answer;
-      one-done = one-done;
+      exactly = λ r before after d. by-room 3 (length before) Refused r (buffer 3 (length before)) (d .answers) (λ why. (λ q. q, λ q. q));
+      quiet = λ why before after d. still _ why _ before after (sym (d .answers)) (d .writes);
     }
+
+pub canonic : (t : ℤ) → RefusesLent formed.Refused (WritesForm t) (λ room. line4 2 room ∷ [])
+unfolding canonicTold canonicWritten
+canonic t =
+    record {
+      exactly = λ r before after d. by-room 2 (length before) formed.Refused r _ (d .answers) (formed-told (buffer 2 (length before)) (nonzeros (formOf t)));
+      quiet = λ why before after d.
+          still (buffer 2 (length before)) why _ before after (formed-told (buffer 2 (length before)) (nonzeros (formOf t)) why .0 (sym (d .answers))) (d .writes);
+    }
+
+pub print : (s : List ℕ) → RefusesLent printed.Refused (Prints s) (λ room. line4 8769 room ∷ [])
+unfolding printedTold textWritten
+print s =
+    record {
+      exactly = λ r before after d. by-room 8769 (length before) printed.Refused r _ (d .answers) (λ why. printed-told (leb 8769 (length before)) why);
+      quiet = λ why before after d. quiet-of (leb 8769 (length before)) why before after (d .answers) (d .writes);
+    }
+  where
+    printed-told : (b : Bool) (why : Refusal)
+        → (cond b (printed.Bytes (length (jobText s))) (printed.Refused no.Buffer) ≡ printed.Refused why) ↔ (cond (b && true) Accepted (Refused no.Buffer) ≡ Refused why)
+    printed-told true why = (λ e. absurd (let z : _≡_ {A = ℕ} 0 1 = cc in omega arith), λ e. never-both why e)
+    printed-told false why = (λ e. cc, λ e. ap printed.Refused (refused-same no.Buffer why e))
+
+    quiet-of : (b : Bool) (why : Refusal) (before after : List ℕ) → printed.Refused why ≡ cond b (printed.Bytes (length (jobText s))) (printed.Refused no.Buffer)
+        → after ≡ over (cond b (jobText s) []) before → after ≡ before
+    quiet-of true why before after e f = absurd (let z : _≡_ {A = ℕ} 0 1 = cc in omega arith)
+    quiet-of false why before after e f = f ∙ over-none before

@@ -1,5 +1,13 @@
-pub mod Examples
+-- The proofs of what the buyer is promised.
+pub mod Rows
+pub mod Worked
+pub mod Grammar
+pub mod Condition1
 pub mod Condition2
 pub mod Condition3
-pub mod Condition1
+pub mod Constants
+pub mod Listing
+pub mod Jobs
+pub mod Examples
 pub mod SortKey
+pub mod Tender

@@ -1,152 +1,66 @@
 -- Condition 1: every list, bit limit, graph, ready list and job text is answered, or refused by a line of the table, exactly in its situation, and
 -- nothing is written on refusal. Assumes nothing.
 use mathlib.Core.Path.{_≡_}
-use mathlib.Core.Bool.{Bool, true, false}
-use mathlib.Core.List.{List, [], _∷_, _++_, map, List·Memᴰ, List·Permᴰ}
-use mathlib.Core.Logic.{_⊎_, _↔_}
-use Prim.Native.Nat.{ℕ, _+_, _-_, _*_, _^_, _≤_, _<_}
+use mathlib.Core.List.{List, [], _∷_, _++_}
+use mathlib.Core.Logic.{_↔_}
+use Prim.Native.Nat.{ℕ, _+_, _≤_}
 use lib.IntN.{ℤ, pos, negsuc}
-use lib.ListN.{length, getD}
+use lib.ListN.{length}
 use Rattle.meaning.specs.declared.Answer.the-variants.{Refused}
 use Rattle.meaning.specs.declared.Drawn.the-variants as drew
 use Rattle.meaning.specs.declared.Far.the-variants as far
+use Rattle.meaning.specs.declared.Formed.the-variants as formed
 use Rattle.meaning.specs.declared.Printed.the-variants as printed
-use Rattle.meaning.specs.declared.Read.the-variants.{Number}
 use Rattle.meaning.specs.declared.Refusal.{Refusal}
-use Rattle.meaning.specs.declared.Refusal.the-variants as no
-use Rattle.meaning.specs.declared.Row.{Row}
-use Rattle.meaning.specs.Basics.{First, upFrom}
-use Rattle.meaning.specs.Limits.{limit, mostRows, mostReady}
-use Rattle.meaning.specs.Constants.{oddOf}
-use Rattle.meaning.specs.Operation.{Odd}
-use Rattle.meaning.specs.Graph.{RowsIn, rowLength, rows, values, Fits}
-use Rattle.meaning.specs.Generator.{generated}
-use Rattle.meaning.specs.Widths.{rowWidth, InOrder}
-use Rattle.meaning.specs.Text.{span, numberAt, textOf}
-use Rattle.meaning.specs.Job.{Asked, asks, malformed, jobOf, natural}
-use Rattle.meaning.specs.Listing.{refusedLine, rowOrder, listing, jobText, printedTold, textWritten, textRoom}
-use Rattle.meaning.specs.Refusals.{number, Done, admitted, checked, multiplied, productsWritten, measured, widthsWritten, ranked, rankingWritten, drawnTold, rowsWritten, distanceTold}
+use Rattle.meaning.specs.Constants.{signOf, shiftOf, oddOf}
+use Rattle.meaning.specs.Text.{bytes, textOf}
+use Rattle.meaning.specs.Job.{natural}
+use Rattle.meaning.specs.Refusals.{number, placeOf, Done}
+use Rattle.meaning.specs.Calls.{Admits, Checks, ChecksWidth, Distances, TakesApart, WritesForm, Generates, Multiplies, Measures, Ranks, Prints}
+use Rattle.tender.specs.Words.{TakenApart, Written}
+use Rattle.tender.specs.Table.{Line, FirstOf, line4, admitTable, checkTable, widthTable, generateTable, distanceTable, JobRefused}
 
--- ---- the table: in which situation a refusal comes, and with which place (`First`: there, and at no place before)
+-- r is a refusal with number N and place P
+abbrev pub IsRefusal : {R : Type 0} → (Refusal → R) → R → ℕ → ℕ → Type 0
+IsRefusal refused r N P = (why : Refusal) × (r ≡ refused why) × (number why ≡ N) × (placeOf why ≡ P)
 
-abbrev pub Situation : Type 1
-Situation = Refusal → Type 0
+-- a call refuses with number N and place P exactly if they are those of the first line of its table whose situation holds
+abbrev pub Refuses : {R : Type 0} → (Refusal → R) → (R → Type 0) → List Line → Type 0
+Refuses {R} refused Call table = (r : R) → Call r → (N P : ℕ) → IsRefusal refused r N P ↔ FirstOf table N P
 
--- 1
-abbrev pub bitsOut : ℕ → Situation
-bitsOut b why = (why ≡ no.Bits) × (¬ ((2 ≤ b) × (b ≤ 16)))
+-- the same of a call with a lent slice, whose length is the room; and on refusal the slice is as it was
+pub record RefusesLent {R A : Type 0} (refused : Refusal → R) (Call : R → List A → List A → Type 0) (table : ℕ → List Line) : Type 0 where
+  pub exactly : (r : R) (before after : List A) → Call r before after → (N P : ℕ) → IsRefusal refused r N P ↔ FirstOf (table (length before)) N P
+  pub quiet : (why : Refusal) (before after : List A) → Call (refused why) before after → after ≡ before
 
--- 2
-abbrev pub listOut : List ℤ → Situation
-listOut ts why = (why ≡ no.List) × (¬ ((1 ≤ length ts) × (length ts ≤ 16)))
-
--- 3
-abbrev pub oddPartOut : ℕ → List ℤ → Situation
-oddPartOut b ts why = (p : ℕ) × (why ≡ no.OddPart p) × First (λ _ t. 2 ^ b ≤ oddOf t) ts p
-
--- 4
-abbrev pub bufferShort : ℕ → ℕ → Situation
-bufferShort needed room why = (why ≡ no.Buffer) × (room < needed)
-
--- 5
-abbrev pub rowCountOut : ℕ → List ℕ → Situation
-rowCountOut n w why = (why ≡ no.RowCount) × (¬ (RowsIn n w))
-
--- 6
-abbrev pub rowInvalid : ℕ → List Row → Situation
-rowInvalid b xs why = (p : ℕ) × (why ≡ no.Row p) × First (λ before x. ¬ (Fits (limit b) before x)) xs p
-
--- 7
-abbrev pub oddPartMissing : List Row → List ℤ → Situation
-oddPartMissing xs ts why = (p : ℕ) × (why ≡ no.Unserved p) × First (λ _ t. (1 < oddOf t) × (¬ List·Memᴰ (oddOf t) (values xs))) ts p
-
--- 8
-abbrev pub rowsOver : List Row → Situation
-rowsOver xs why = (why ≡ no.TooManyRows) × (mostRows < length xs)
-
--- 9
-abbrev pub widthOut : ℕ → Situation
-widthOut w why = (why ≡ no.Width) × (¬ ((2 ≤ w) × (w ≤ 32)))
-
--- 10, length before values
-abbrev pub readyLengthOut : List ℕ → Situation
-readyLengthOut vals why = (why ≡ no.Ready 0) × (¬ ((1 ≤ length vals) × (length vals ≤ mostReady)))
-
-abbrev pub readyValueOut : ℕ → List ℕ → Situation
-readyValueOut b vals why = (p : ℕ) × (why ≡ no.Ready p) × First (λ _ v. ¬ (Odd (limit b) v)) vals p
-
--- 11
-abbrev pub targetOut : ℕ → ℕ → Situation
-targetOut b c why = (why ≡ no.Target) × (¬ (Odd b c))
-
--- ---- the order of each call: the first situation that holds counts
-
-abbrev pub RefusedBy : List Situation → Refusal → Type 0
-RefusedBy [] why = ⊥
-RefusedBy (S ∷ rest) why = S why ⊎ (((other : Refusal) → ¬ (S other)) × RefusedBy rest why)
-
-abbrev pub admitTable : ℕ → List ℤ → List Situation
-admitTable b ts = bitsOut b ∷ listOut ts ∷ oddPartOut b ts ∷ []
-
-abbrev pub checkTable : ℕ → List ℤ → ℕ → List ℕ → List Situation
-checkTable b ts n w = admitTable b ts ++ (rowCountOut n w ∷ rowInvalid b (rows n w) ∷ oddPartMissing (rows n w) ts ∷ [])
-
-abbrev pub sizedTable : ℕ → List ℤ → ℕ → List ℕ → ℕ → List Situation
-sizedTable b ts n w input = checkTable b ts n w ++ (widthOut input ∷ [])
-
-abbrev pub generateTable : ℕ → List ℤ → ℕ → List Situation
-generateTable b ts room = admitTable b ts ++ (bufferShort (rowLength * mostRows) room ∷ rowsOver (generated b ts) ∷ [])
-
-abbrev pub distanceTable : ℕ → List ℕ → ℕ → List Situation
-distanceTable b vals c = bitsOut b ∷ readyLengthOut vals ∷ readyValueOut b vals ∷ targetOut b c ∷ []
-
-abbrev pub jobTable : Asked → List Situation
-jobTable j =
-    admitTable (natural (j .head .bits)) (j .targets) ++ (rowsOver (generated (natural (j .head .bits)) (j .targets)) ∷ widthOut (natural (j .head .input)) ∷ [])
-
--- z is a signed 32-bit number; negsuc n is -(n + 1)
-abbrev pub Signed32 : ℤ → Type 0
-Signed32 (pos n) = n < 2 ^ 31
-Signed32 (negsuc n) = n < 2 ^ 31
+-- the only line printed for a job that is refused
+abbrev pub refusedLine : ℕ → ℕ → List ℕ
+refusedLine N P = bytes "refused=" ++ textOf (pos N) ++ bytes " place=" ++ textOf (pos P) ++ bytes "\n"
 
 pub record Condition1 : Type 1 where
-  -- each call refuses exactly in the situations of its table, in their order
-  pub admit : (b : ℕ) (ts : List ℤ) (why : Refusal) → (admitted b ts ≡ Refused why) ↔ RefusedBy (admitTable b ts) why
-  pub check : (b : ℕ) (ts : List ℤ) (n : ℕ) (w : List ℕ) (why : Refusal) → (checked b ts n w ≡ Refused why) ↔ RefusedBy (checkTable b ts n w) why
-  pub multiply : (b : ℕ) (ts : List ℤ) (n : ℕ) (w : List ℕ) (room : ℕ) (why : Refusal)
-      → (multiplied b ts n w room ≡ Refused why) ↔ RefusedBy (checkTable b ts n w ++ (bufferShort (length ts) room ∷ [])) why
-  pub measure : (b : ℕ) (ts : List ℤ) (n : ℕ) (w : List ℕ) (input room : ℕ) (why : Refusal)
-      → (measured b ts n w input room ≡ Refused why) ↔ RefusedBy (sizedTable b ts n w input ++ (bufferShort (n + length ts) room ∷ [])) why
-  pub rank : (b : ℕ) (ts : List ℤ) (n : ℕ) (w : List ℕ) (input room : ℕ) (why : Refusal)
-      → (ranked b ts n w input room ≡ Refused why) ↔ RefusedBy (sizedTable b ts n w input ++ (bufferShort n room ∷ [])) why
-  pub generate : (b : ℕ) (ts : List ℤ) (room : ℕ) (why : Refusal) → (drawnTold b ts room ≡ drew.Refused why) ↔ RefusedBy (generateTable b ts room) why
-  pub distance : (b : ℕ) (vals : List ℕ) (c : ℕ) (why : Refusal) → (distanceTold b vals c ≡ far.Refused why) ↔ RefusedBy (distanceTable b vals c) why
-  -- a job's text prints the line of its refusal, 12 before the others, or its listing
-  pub job-malformed : (s : List ℕ) (p : ℕ) → jobOf s ≡ malformed p → jobText s ≡ refusedLine (no.Job p)
-  pub job-refused : (s : List ℕ) (j : Asked) (why : Refusal) → jobOf s ≡ asks j → RefusedBy (jobTable j) why → jobText s ≡ refusedLine why
-  pub job-listed : (s : List ℕ) (j : Asked) → jobOf s ≡ asks j → ((why : Refusal) → ¬ (RefusedBy (jobTable j) why)) → jobText s ≡ listing j
-  -- its call asks for a buffer that holds every text
-  pub print : (s : List ℕ) (room : ℕ) (why : Refusal) → (printedTold s room ≡ printed.Refused why) ↔ RefusedBy (bufferShort textRoom room ∷ []) why
-  -- the numbers printed read back as the numbers meant, wherever they stand, if no digit follows
-  pub numbers-back : (z : ℤ) (front rest : List ℕ) → Signed32 z → span rest ≡ 0
-      → numberAt (front ++ (textOf z ++ rest)) (length front) ≡ Number z (length front + length (textOf z))
-  -- the row lines are a permutation of the rows: widest first, equal widths by lower row; or by row number
-  pub rows-once : (byWidth : Bool) (xs : List Row) → List·Permᴰ (rowOrder byWidth (values xs)) (upFrom 1 (length xs))
-  pub rows-by-width : (input : ℕ) (xs : List Row) → InOrder (λ k. getD (map (rowWidth input) (values xs)) (k - 1) 0) (rowOrder true (values xs))
-  pub rows-by-number : (xs : List Row) → rowOrder false (values xs) ≡ upFrom 1 (length xs)
-  -- nothing is written on refusal
-  pub multiply-quiet : (b : ℕ) (ts : List ℤ) (n : ℕ) (w : List ℕ) (x : ℤ) (why : Refusal) (before now : List ℤ)
-      → Done (multiplied b ts n w (length before)) (productsWritten b ts n w x (length before)) (Refused why) before now → now ≡ before
-  pub measure-quiet : (b : ℕ) (ts : List ℤ) (n : ℕ) (w : List ℕ) (input : ℕ) (why : Refusal) (before now : List ℕ)
-      → Done (measured b ts n w input (length before)) (widthsWritten b ts n w input (length before)) (Refused why) before now → now ≡ before
-  pub rank-quiet : (b : ℕ) (ts : List ℤ) (n : ℕ) (w : List ℕ) (input : ℕ) (why : Refusal) (before now : List ℕ)
-      → Done (ranked b ts n w input (length before)) (rankingWritten b ts n w input (length before)) (Refused why) before now → now ≡ before
-  pub generate-quiet : (b : ℕ) (ts : List ℤ) (why : Refusal) (before now : List ℕ)
-      → Done (drawnTold b ts (length before)) (rowsWritten b ts (length before)) (drew.Refused why) before now → now ≡ before
-  pub print-quiet : (s : List ℕ) (why : Refusal) (before now : List ℕ)
-      → Done (printedTold s (length before)) (textWritten s (length before)) (printed.Refused why) before now → now ≡ before
-  -- every refusal has a number of the table
-  pub numbered : (why : Refusal) → (1 ≤ number why) × (number why ≤ 12)
+  pub admit : (b : ℕ) (ts : List ℤ) → Refuses Refused (Admits b ts) (admitTable b ts)
+  pub check : (b : ℕ) (ts : List ℤ) (n : ℕ) (w : List ℕ) → Refuses Refused (Checks b ts n w) (checkTable b ts n w)
+  pub check-width : (b : ℕ) (ts : List ℤ) (n : ℕ) (w : List ℕ) (input : ℕ) → Refuses Refused (ChecksWidth b ts n w input) (widthTable b ts n w input)
+  pub distance : (b : ℕ) (vals : List ℕ) (c : ℕ) → Refuses far.Refused (Distances b vals c) (distanceTable b vals c)
+  pub generate : (b : ℕ) (ts : List ℤ) → RefusesLent drew.Refused (Generates b ts) (generateTable b ts)
+  pub multiply : (b : ℕ) (ts : List ℤ) (n : ℕ) (w : List ℕ) (x : ℤ)
+      → RefusesLent Refused (Multiplies b ts n w x) (λ room. checkTable b ts n w ++ (line4 (length ts) room ∷ []))
+  pub measure : (b : ℕ) (ts : List ℤ) (n : ℕ) (w : List ℕ) (input : ℕ)
+      → RefusesLent Refused (Measures b ts n w input) (λ room. widthTable b ts n w input ++ (line4 (n + length ts) room ∷ []))
+  pub rank : (b : ℕ) (ts : List ℤ) (n : ℕ) (w : List ℕ) (input : ℕ)
+      → RefusesLent Refused (Ranks b ts n w input) (λ room. widthTable b ts n w input ++ (line4 n room ∷ []))
+  pub apart : (t : ℤ) → RefusesLent Refused (TakesApart t) (λ room. line4 3 room ∷ [])
+  pub canonic : (t : ℤ) → RefusesLent formed.Refused (WritesForm t) (λ room. line4 2 room ∷ [])
+  -- a job's text is printed if there is room for every text, and none is longer
+  pub print : (s : List ℕ) → RefusesLent printed.Refused (Prints s) (λ room. line4 8769 room ∷ [])
+  pub text-fits : (s : List ℕ) (k : ℕ) (before after : List ℕ) → Prints s (printed.Bytes k) before after → k ≤ 8769
+  -- what is printed for a job that is refused; for any other it is the listing
+  pub job : (s : List ℕ) (k : ℕ) (before after : List ℕ) → Prints s (printed.Bytes k) before after → (N P : ℕ) → JobRefused s N P
+      → (k ≡ length (refusedLine N P)) × Written (refusedLine N P) before after
+  -- a negative bit limit or input width counts as 0, which is out of range
+  pub negative-out : (n : ℕ) → (natural (pos n) ≡ n) × (natural (negsuc n) ≡ 0)
+  -- the odd part that the table speaks of
+  pub parts : (t : ℤ) → TakenApart t (signOf t) (shiftOf t) (oddOf t)
   -- a contract that says what an answer equals, and what a lent slice holds, allows one answer and one contents
   pub one-answer : {A : Type 0} (d x y : A) → x ≡ d → y ≡ d → x ≡ y
   pub one-done : {R A : Type 0} (a : R) (w before : List A) (r r′ : R) (now now′ : List A) → Done a w r before now → Done a w r′ before now′

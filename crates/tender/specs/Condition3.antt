@@ -2,17 +2,21 @@
 use mathlib.Core.Path.{_≡_}
 use mathlib.Core.List.{List, [], _∷_, List·Memᴰ}
 use mathlib.Core.Logic.{_↔_}
-use Prim.Native.Nat.{ℕ, _≤_, _<_}
-use lib.IntN.{ℤ}
-use lib.ListN.{length}
+use Prim.Native.Nat.{ℕ, _+_, _-_, _*_, _≤_, _<_}
+use lib.IntN.{ℤ, natAbs}
+use lib.ListN.{length, drop}
 use Rattle.meaning.specs.declared.Answer.the-variants.{Accepted}
+use Rattle.meaning.specs.declared.Drawn.{Drawn}
 use Rattle.meaning.specs.declared.Drawn.the-variants.{Rows}
-use Rattle.meaning.specs.declared.Far.the-variants.{Zero, One, Two, Beyond}
-use Rattle.meaning.specs.Limits.{limit}
-use Rattle.meaning.specs.Constants.{oddOf, wanted, Ascending}
-use Rattle.meaning.specs.Distance.{Reached, ReachedTwice}
-use Rattle.meaning.specs.Digits.{Canonic, canonic, nonzeros, csdSum}
-use Rattle.meaning.specs.Refusals.{checked, Done, drawnTold, rowsWritten, firstOf, distanceOrder, distanceTold}
+use Rattle.meaning.specs.declared.Far.{Far}
+use Rattle.meaning.specs.declared.Far.the-variants as far
+use Rattle.meaning.specs.declared.Refusal.{Refusal}
+use Rattle.meaning.specs.Constants.{oddOf, wanted}
+use Rattle.meaning.specs.Digits.{Digit, worth, Canonic, canonic}
+use Rattle.meaning.specs.Graph.{rows}
+use Rattle.meaning.specs.Generator.{generated}
+use Rattle.meaning.specs.Calls.{Admits, Checks, Distances, Generates}
+use Rattle.tender.specs.Words.{AOperation, Ascends}
 
 -- c is one of the distinct odd parts greater than one
 pub record WantedPart (ts : List ℤ) (c : ℕ) : Type 0 where
@@ -21,26 +25,62 @@ pub record WantedPart (ts : List ℤ) (c : ℕ) : Type 0 where
   pub part : oddOf target ≡ c
   pub above : 1 < c
 
--- a call of the generator by its contract: it has reported n rows, and `now` is what the lent slice, `before` the call, holds afterwards
-abbrev pub Generates : ℕ → List ℤ → ℕ → List ℕ → List ℕ → Type 0
-Generates b ts n before now = Done (drawnTold b ts (length before)) (rowsWritten b ts (length before)) (Rows n) before now
+-- how many digits of a form are nonzero: -1 or 1
+abbrev pub nonzeroDigits : List Digit → ℕ
+nonzeroDigits [] = 0
+nonzeroDigits (d ∷ ds) = natAbs (worth d) + nonzeroDigits ds
+
+-- the sum, over constants, of the nonzero digits in the canonic form less one each
+abbrev pub digitSum : List ℕ → ℕ
+digitSum [] = 0
+digitSum (c ∷ cs) = (nonzeroDigits (canonic c) - 1) + digitSum cs
+
+-- one bounded operation on two of the values, perhaps the same one twice, gives c
+pub record ByOne (b : ℕ) (vals : List ℕ) (c : ℕ) : Type 0 where
+  pub u : ℕ
+  pub v : ℕ
+  pub l1 : ℕ
+  pub l2 : ℕ
+  pub s : ℕ
+  pub r : ℕ
+  pub first : List·Memᴰ u vals
+  pub second : List·Memᴰ v vals
+  pub operation : AOperation b u v l1 l2 s r c
+
+-- one operation gives some s, and with s added one operation gives c
+pub record ByTwo (b : ℕ) (vals : List ℕ) (c : ℕ) : Type 0 where
+  pub s : ℕ
+  pub first : ByOne b vals s
+  pub second : ByOne b (s ∷ vals) c
+
+abbrev pub NotRefused : Far → Type 0
+NotRefused r = (why : Refusal) → ¬ (r ≡ far.Refused why)
 
 pub record Condition3 : Type 0 where
-  -- on every call that is not refused, the reported rows, as they stand in the lent slice, are a graph that condition 2 accepts
-  pub accepted : (b : ℕ) (ts : List ℤ) (n : ℕ) (before now : List ℕ) → Generates b ts n before now → checked b ts n now ≡ Accepted
-  -- they are never more than the sum, over the distinct odd parts greater than one, of the nonzero canonic digits less one each
-  pub few-rows : (b : ℕ) (ts : List ℤ) (n : ℕ) (before now : List ℕ) → Generates b ts n before now → n ≤ csdSum (wanted ts)
+  -- every list that is not refused is answered, where there is room for 128 rows: refusal 8 never comes
+  pub answered : (b : ℕ) (ts : List ℤ) (r : Drawn) (before after : List ℕ) → Generates b ts r before after → Admits b ts Accepted → 896 ≤ length before
+      → (n : ℕ) × (r ≡ Rows n)
+  -- the reported rows, as they stand in the lent slice, are a graph that condition 2 accepts; nothing else is written
+  pub accepted : (b : ℕ) (ts : List ℤ) (n : ℕ) (before after : List ℕ) → Generates b ts (Rows n) before after → Checks b ts n after Accepted
+  pub by-the-rule : (b : ℕ) (ts : List ℤ) (n : ℕ) (before after : List ℕ) → Generates b ts (Rows n) before after → rows n after ≡ generated b ts
+  pub kept : (b : ℕ) (ts : List ℤ) (n : ℕ) (before after : List ℕ) → Generates b ts (Rows n) before after
+      → (length after ≡ length before) × (drop (7 * n) after ≡ drop (7 * n) before)
+  -- they are never more than the sum over the distinct odd parts greater than one
+  pub few-rows : (b : ℕ) (ts : List ℤ) (n : ℕ) (before after : List ℕ) → Generates b ts (Rows n) before after → n ≤ digitSum (wanted ts)
   pub wanted-are : (ts : List ℤ) (c : ℕ) → List·Memᴰ c (wanted ts) ↔ WantedPart ts c
-  pub wanted-once : (ts : List ℤ) → Ascending (wanted ts)
+  pub wanted-once : (ts : List ℤ) → Ascends (wanted ts)
   pub canonic-is : (c : ℕ) → Canonic c (canonic c)
+  pub canonic-only : (c : ℕ) (ds : List Digit) → Canonic c ds → ds ≡ canonic c
   -- with exactly one such odd part, of at most four nonzero digits, no accepted graph under the same bit limit has fewer rows
-  pub fewest : (b : ℕ) (ts : List ℤ) (c n : ℕ) (before now : List ℕ) → Generates b ts n before now → wanted ts ≡ c ∷ [] → nonzeros (canonic c) ≤ 4
-      → (m : ℕ) (w : List ℕ) → checked b ts m w ≡ Accepted → n ≤ m
+  pub fewest : (b : ℕ) (ts : List ℤ) (c n : ℕ) (before after : List ℕ) → Generates b ts (Rows n) before after → wanted ts ≡ c ∷ []
+      → nonzeroDigits (canonic c) ≤ 4 → (m : ℕ) (w : List ℕ) → Checks b ts m w Accepted → n ≤ m
   -- a constant is reported at 0, 1 or 2, or beyond, exactly if it is one of the values, or one or two bounded operations reach it from them
-  pub zero : (b : ℕ) (vals : List ℕ) (c : ℕ) → firstOf (distanceOrder b vals c) ≡ Accepted → (distanceTold b vals c ≡ Zero) ↔ List·Memᴰ c vals
-  pub one : (b : ℕ) (vals : List ℕ) (c : ℕ) → firstOf (distanceOrder b vals c) ≡ Accepted
-      → (distanceTold b vals c ≡ One) ↔ ((¬ List·Memᴰ c vals) × Reached (limit b) vals c)
-  pub two : (b : ℕ) (vals : List ℕ) (c : ℕ) → firstOf (distanceOrder b vals c) ≡ Accepted
-      → (distanceTold b vals c ≡ Two) ↔ ((¬ List·Memᴰ c vals) × (¬ Reached (limit b) vals c) × ReachedTwice (limit b) vals c)
-  pub beyond : (b : ℕ) (vals : List ℕ) (c : ℕ) → firstOf (distanceOrder b vals c) ≡ Accepted
-      → (distanceTold b vals c ≡ Beyond) ↔ ((¬ List·Memᴰ c vals) × (¬ Reached (limit b) vals c) × (¬ ReachedTwice (limit b) vals c))
+  pub zero : (b : ℕ) (vals : List ℕ) (c : ℕ) (r : Far) → Distances b vals c r → NotRefused r → (r ≡ far.Zero) ↔ List·Memᴰ c vals
+  pub one : (b : ℕ) (vals : List ℕ) (c : ℕ) (r : Far) → Distances b vals c r → NotRefused r → (r ≡ far.One) ↔ ((¬ List·Memᴰ c vals) × ByOne b vals c)
+  pub two : (b : ℕ) (vals : List ℕ) (c : ℕ) (r : Far) → Distances b vals c r → NotRefused r
+      → (r ≡ far.Two) ↔ ((¬ List·Memᴰ c vals) × (¬ ByOne b vals c) × ByTwo b vals c)
+  pub beyond : (b : ℕ) (vals : List ℕ) (c : ℕ) (r : Far) → Distances b vals c r → NotRefused r
+      → (r ≡ far.Beyond) ↔ ((¬ List·Memᴰ c vals) × (¬ ByOne b vals c) × (¬ ByTwo b vals c))
+  -- repeats in the list of values, and their order, change nothing
+  pub same-values : (b : ℕ) (xs ys : List ℕ) (c : ℕ) (r q : Far) → Distances b xs c r → Distances b ys c q → NotRefused r → NotRefused q
+      → ((a : ℕ) → List·Memᴰ a xs ↔ List·Memᴰ a ys) → r ≡ q

@@ -7,11 +7,8 @@ use Prim.Native.Nat.{ℕ, _-_, _%_, _^_}
 use lib.Dec.{ltb}
 use lib.IntN.{ℤ, pos, negℤ}
 use Rattle.meaning.specs.declared.Answer.{Answer}
-use Rattle.meaning.specs.declared.Row.{Row}
-use Rattle.meaning.specs.Graph.{flat, values}
 use Rattle.meaning.specs.Widths.{rowWidth, ranking}
-use Rattle.meaning.specs.Refusals.{Done, ranked, rankingWritten}
-use Rattle.tender.specs.Examples.{row}
+use Rattle.meaning.specs.Calls.{Ranks}
 
 -- the greatest magnitude that an adder of this width holds
 abbrev pub peak : ℕ → ℕ
@@ -21,18 +18,14 @@ peak width = 2 ^ (width - 1)
 abbrev pub signed32 : ℕ → ℤ
 signed32 p = cond (ltb (p % 2 ^ 32) (2 ^ 31)) (pos (p % 2 ^ 32)) (negℤ (pos (2 ^ 32 - p % 2 ^ 32)))
 
--- 3 and 5, for inputs of 29 bits
-abbrev pub two : List Row
-two = row 0 0 0 1 0 0 3 ∷ row 0 0 0 2 0 0 5 ∷ []
-
-abbrev pub targets : List ℤ
-targets = pos 3 ∷ pos 5 ∷ []
+-- a graph that makes 3 and 5, for inputs of 29 bits
+abbrev pub words : List ℕ
+words = 0 ∷ 0 ∷ 0 ∷ 1 ∷ 0 ∷ 0 ∷ 3 ∷ 0 ∷ 0 ∷ 0 ∷ 2 ∷ 0 ∷ 0 ∷ 5 ∷ []
 
 pub record SortKey : Type 0 where
-  pub widths : map (rowWidth 29) (values two) ≡ 31 ∷ 32 ∷ []
+  pub widths : map (rowWidth 29) (3 ∷ 5 ∷ []) ≡ 31 ∷ 32 ∷ []
   -- row 2 is the wider, and its peak sorts below row 1's
-  pub peaks : map (λ v. signed32 (peak (rowWidth 29 v))) (values two) ≡ pos 1073741824 ∷ negℤ (pos 2147483648) ∷ []
-  pub order : ranking 29 (values two) ≡ 2 ∷ 1 ∷ []
+  pub peaks : map (λ v. signed32 (peak (rowWidth 29 v))) (3 ∷ 5 ∷ []) ≡ pos 1073741824 ∷ negℤ (pos 2147483648) ∷ []
+  pub order : ranking 29 (3 ∷ 5 ∷ []) ≡ 2 ∷ 1 ∷ []
   -- whatever the call answers and leaves in a slice of two words, it is not the order of those peaks
-  pub refused : (r : Answer) (after : List ℕ) → Done (ranked 8 targets 2 (flat two) 29 2) (rankingWritten 8 targets 2 (flat two) 29 2) r (0 ∷ 0 ∷ []) after
-      → ¬ (after ≡ 1 ∷ 2 ∷ [])
+  pub refused : (r : Answer) (after : List ℕ) → Ranks 8 (pos 3 ∷ pos 5 ∷ []) 2 words 29 r (0 ∷ 0 ∷ []) after → ¬ (after ≡ 1 ∷ 2 ∷ [])

@@ -180,7 +180,9 @@ calls b ts room e =
 -- what a call has done that reports n rows
 pub record Call (b : ℕ) (ts : List ℤ) (n : ℕ) (before now : List ℕ) : Type 0 where
   pub admits : admitted b ts ≡ Accepted
+  pub room : rowLength * mostRows ≤ length before
   pub count : n ≡ length (generated b ts)
+  pub few : n ≤ mostRows
   pub writes : now ≡ over (flat (generated b ts)) before
 
 reports : (a : Answer) (m n : ℕ) → out.Rows n ≡ drawnAs a m → (a ≡ Accepted) × (n ≡ m)
@@ -193,7 +195,7 @@ unfolding drawnTold
 call-of b ts n before now d =
     let (e, q) = reports (drawn b ts (length before)) (length (generated b ts)) n (d .answers) in
     let (a, h) = calls b ts (length before) e in
-    record { admits = a; count = q; writes = d .writes ∙ ap (λ (ws : List ℕ). over ws before) (drawn-writes b ts (length before) a h) }
+    record { admits = a; room = h; count = q; few = omega (arith, q, few-rows b ts a); writes = d .writes ∙ ap (λ (ws : List ℕ). over ws before) (drawn-writes b ts (length before) a h) }
 
 -- its rows, as they stand in the slice, are those of the rule
 pub call-rows : (b : ℕ) (ts : List ℤ) (n : ℕ) (before now : List ℕ) → Call b ts n before now → rows n now ≡ generated b ts

@@ -1,7 +1,7 @@
 -- The member at an index, and the lowest index that has a value. Assumes nothing.
 use mathlib.Core.Path.{_≡_, refl, _∙_, subst}
 use mathlib.Core.Bool.{Bool, true, false, cond, _||_}
-use mathlib.Core.List.{List, [], _∷_, List·Memᴰ, List·Memᴰ·head, List·Memᴰ·tail}
+use mathlib.Core.List.{List, [], _∷_, map, List·Memᴰ, List·Memᴰ·head, List·Memᴰ·tail}
 use Prim.Native.Nat.{ℕ, zero, suc, _+_, _≤_, _<_}
 use native.Mathlib.Nat.{le-of-suc-le-suc}
 use native.Mathlib.Omega.{arith}
@@ -20,6 +20,12 @@ getD-in (x ∷ xs) (suc i) d h = List·Memᴰ·tail (getD-in xs i d (omega arith
 pub in-getD : {xs : List ℕ} {u : ℕ} → List·Memᴰ u xs → (i : ℕ) × (i < length xs) × (u ≡ getD xs i 0)
 in-getD (List·Memᴰ·head e) = (0, omega arith, e)
 in-getD (List·Memᴰ·tail j) = let (i, h, e) = in-getD j in (suc i, omega arith, e)
+
+-- and of what a function makes of the members
+pub at-map : {A B : Type 0} (f : A → B) (xs : List A) (k : ℕ) (d : A) (e : B) → k < length xs → getD (map f xs) k e ≡ f (getD xs k d)
+at-map f [] k d e h = absurd (omega arith)
+at-map f (x ∷ xs) zero d e h = refl
+at-map f (x ∷ xs) (suc k) d e h = at-map f xs k d e (omega arith)
 
 -- ---- the lowest index of a value
 
@@ -46,6 +52,18 @@ index-is k (x ∷ xs) c t = go (eqb x c) refl t (λ q. index-is (suc k) xs c q)
     go false e t rest =
         let (i, f, l) = rest t in
         (suc i, f ∙ omega arith, record { inside = let h = l .inside in omega arith; at = l .at; below = none-below x xs c i e (l .below) })
+
+-- no index below it has c
+pub index-lowest : (k : ℕ) (xs : List ℕ) (c i : ℕ) → k + i < indexFrom k xs c → ¬ (getD xs i 0 ≡ c)
+unfolding indexFrom
+index-lowest k [] c i h q = omega arith
+index-lowest k (x ∷ xs) c i h q = go (eqb x c) refl i h q (λ j. index-lowest (suc k) xs c j)
+  where
+    go : (b : Bool) → eqb x c ≡ b → (i : ℕ) → k + i < cond b k (indexFrom (suc k) xs c) → getD (x ∷ xs) i 0 ≡ c
+        → ((j : ℕ) → suc k + j < indexFrom (suc k) xs c → ¬ (getD xs j 0 ≡ c)) → ⊥
+    go true e i h q rest = omega arith
+    go false e zero h q rest = subst T e (eq→eqb x c q)
+    go false e (suc i) h q rest = rest i (omega arith) q
 
 -- it is inside the list also where none has c
 pub index-inside : (k : ℕ) (xs : List ℕ) (c : ℕ) → 0 < k + length xs → indexFrom k xs c < k + length xs

@@ -1,18 +1,20 @@
--- Lines by their forms: byte by byte of the form, line by line, and how long they are. Assumes nothing.
+-- Lines by their forms: byte by byte of the form, number by number, line by line, and how long they are. Assumes nothing.
 use mathlib.Core.Path.{_≡_, refl, ap, _∙_, sym}
-use mathlib.Core.Bool.{Bool, true, false, cond}
+use mathlib.Core.Bool.{Bool, true, false, not, cond}
 use mathlib.Core.List.{List, [], _∷_, _++_, append-assoc, append-nil, List·Memᴰ, List·Memᴰ·head, List·Memᴰ·tail}
 use Prim.Native.Nat.{ℕ, zero, suc, _+_, _*_, _/_, _%_, _^_, _≤_, _<_}
 use native.Mathlib.Nat.{pow-suc, add-zero, mul-suc}
 use native.Mathlib.Numerals.{add-one}
 use native.Mathlib.Omega.{arith}
-use lib.Dec.{eqb, ltb}
+use lib.Dec.{T, eqb, ltb}
 use lib.IntN.{ℤ, pos}
 use lib.ListN.{length, getD, take, drop, length-append, drop-of-length-le}
 use lib.Seq.{drop-cons, drop-drop, getD-drop}
 use borrow.Author.Tests.{lt-ltb}
-use Rattle.meaning.specs.Text.{decimalIn, unsignedText, textOf}
+use Rattle.meaning.specs.Basics.{every}
+use Rattle.meaning.specs.Text.{bytes, decimalIn, unsignedText, textOf}
 use Rattle.meaning.specs.Forms.{piece, taken, lineOf, linesOf}
+use Rattle.laws.proofs.Lists.Tests.{both-of}
 
 -- a byte of a form takes one number, or none
 pub taken-most : (c : ℕ) → taken c ≤ 1
@@ -41,6 +43,41 @@ module _ (form : List ℕ) (zs : List ℤ) (i n : ℕ) (done : List ℕ) (e : li
   pub line-end : length form ≤ i → done ≡ lineOf form zs
   unfolding lineOf
   line-end h = sym (e ∙ ap (λ (l : List ℕ). done ++ lineOf l (drop n zs)) (drop-of-length-le form h) ∙ append-nil done)
+
+-- ---- a line number by number: a form whose numbers have these texts before them, and its line behind what was written before
+
+abbrev pub formWith : List (List ℕ) → List ℕ
+formWith [] = bytes "\n"
+formWith (text ∷ texts) = text ++ (35 ∷ formWith texts)
+
+abbrev pub lineWith : List ℕ → List (List ℕ) → List ℤ → List ℕ
+lineWith done [] zs = done ++ bytes "\n"
+lineWith done (text ∷ texts) zs = lineWith (done ++ text ++ textOf (getD zs 0 (pos 0))) texts (drop 1 zs)
+
+-- no # stands in a text
+abbrev pub unmarked? : List ℕ → Bool
+unmarked? text = every (λ c. not (eqb c 35)) text
+
+text-line : (text form : List ℕ) (zs : List ℤ) → T (unmarked? text) → lineOf (text ++ form) zs ≡ text ++ lineOf form zs
+unfolding lineOf
+text-line [] form zs t = refl
+text-line (c ∷ text) form zs t = let (h, k) = both-of (not (eqb c 35)) (unmarked? text) t in go (eqb c 35) h (text-line text form zs k)
+  where
+    go : (b : Bool) → T (not b) → lineOf (text ++ form) zs ≡ text ++ lineOf form zs
+        → cond b (textOf (getD zs 0 (pos 0))) (c ∷ []) ++ lineOf (text ++ form) (drop (cond b 1 0) zs) ≡ c ∷ (text ++ lineOf form zs)
+    go true h e = absurd h
+    go false h e = ap (λ (l : List ℕ). c ∷ l) e
+
+pub line-with : (done : List ℕ) (texts : List (List ℕ)) (zs : List ℤ) → T (every unmarked? texts) → done ++ lineOf (formWith texts) zs ≡ lineWith done texts zs
+unfolding lineOf
+line-with done [] zs t = refl
+line-with done (text ∷ texts) zs t =
+    let (h, k) = both-of (unmarked? text) (every unmarked? texts) t in
+    let z : List ℕ = textOf (getD zs 0 (pos 0)) in
+    let rest : List ℕ = lineOf (formWith texts) (drop 1 zs) in
+    ap (λ (l : List ℕ). done ++ l) (text-line text (35 ∷ formWith texts) zs h)
+    ∙ sym (append-assoc (done ++ text) z rest ∙ append-assoc done text (z ++ rest))
+    ∙ line-with (done ++ text ++ z) texts (drop 1 zs) k
 
 -- ---- lines of one form, one after the other
 

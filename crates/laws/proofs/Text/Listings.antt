@@ -1,7 +1,7 @@
 -- Listings: the order of the row lines, and how much room the listing of a graph takes that is not refused. Assumes nothing.
 use mathlib.Core.Path.{_≡_, refl, ap, ap₂, _∙_, subst, subst⁻¹}
 use mathlib.Core.Bool.{Bool, true, false, cond}
-use mathlib.Core.List.{List, [], _∷_, map, List·Memᴰ, List·Memᴰ·head, List·Memᴰ·tail, List·Memᴰ·not-nil, List·Memᴰ·cases-cons, List·Permᴰ, List·Permᴰ·nil, List·Permᴰ·cons, List·Permᴰ·swap, List·Permᴰ·trans, Permᴰ·refl}
+use mathlib.Core.List.{List, [], _∷_, map, List·Memᴰ, List·Memᴰ·head, List·Memᴰ·tail, List·Memᴰ·not-nil, List·Memᴰ·cases-cons, List·Permᴰ, Permᴰ·refl}
 use mathlib.Core.Logic.{_⊎_, ⊎-elim}
 use Prim.Native.Nat.{ℕ, zero, suc, _+_, _-_, _*_, _^_, _≤_, _<_}
 use native.Mathlib.Omega.{arith}
@@ -33,24 +33,12 @@ use Rattle.laws.proofs.Graph.Bounds.{odds-ready, fits-low}
 use Rattle.laws.proofs.Widths.Ranking.{ranking-permutes}
 use Rattle.laws.proofs.Lists.First.{up-length}
 use Rattle.laws.proofs.Lists.Tests.{up-in}
+use Rattle.laws.proofs.Lists.Permutations.{perm-in, perm-length}
 use Rattle.laws.proofs.Constants.Wanted.{sum-most}
 use Rattle.laws.proofs.Widths.Extra.{extra-least}
 use Rattle.laws.proofs.Whole.Zeros.{zeros-low}
 
 -- ---- the order of the row lines: a permutation of the row numbers
-
-perm-in : {xs ys : List ℕ} → List·Permᴰ xs ys → (k : ℕ) → List·Memᴰ k xs → List·Memᴰ k ys
-perm-in List·Permᴰ·nil k i = i
-perm-in (List·Permᴰ·cons e p) k i = ⊎-elim (λ q. List·Memᴰ·head (q ∙ e)) (λ j. List·Memᴰ·tail (perm-in p k j)) (List·Memᴰ·cases-cons i)
-perm-in (List·Permᴰ·swap e f) k i =
-    ⊎-elim (λ q. List·Memᴰ·tail (List·Memᴰ·head (q ∙ e))) (λ j. ⊎-elim (λ q. List·Memᴰ·head (q ∙ f)) (λ l. List·Memᴰ·tail (List·Memᴰ·tail l)) (List·Memᴰ·cases-cons j)) (List·Memᴰ·cases-cons i)
-perm-in (List·Permᴰ·trans p q) k i = perm-in q k (perm-in p k i)
-
-perm-length : {xs ys : List ℕ} → List·Permᴰ xs ys → length xs ≡ length ys
-perm-length List·Permᴰ·nil = refl
-perm-length (List·Permᴰ·cons e p) = omega (arith, perm-length p)
-perm-length (List·Permᴰ·swap e f) = refl
-perm-length (List·Permᴰ·trans p q) = perm-length p ∙ perm-length q
 
 pub order-permutes : (byWidth : Bool) (vals : List ℕ) → List·Permᴰ (rowOrder byWidth vals) (upFrom 1 (length vals))
 order-permutes true vals = ranking-permutes 0 vals

@@ -3,6 +3,7 @@
 use mathlib.Core.Path.{_≡_, refl, ap, _∙_, sym}
 use mathlib.Core.Bool.{Bool, true, false, cond, not}
 use mathlib.Core.List.{List, [], _∷_, _++_}
+use mathlib.Core.Logic.{_⊎_, inl, inr, ⊎-elim}
 use Prim.Native.Nat.{ℕ, zero, suc, _+_, _-_, _*_, _/_, _%_, _^_, _≤_, _<_}
 use native.Mathlib.Nat.{mul-assoc, mul-le-mul-right, pow-succ', pow-le-pow-right}
 use native.Mathlib.Numerals.{add-one}
@@ -11,12 +12,12 @@ use lib.Dec.{eqb, leb, ltb}
 use lib.IntN.{ℤ, pos, negsuc}
 use lib.ListN.{length, take, drop, getD, drop-of-length-le, List·getD-eq-default}
 use lib.Seq.{drop-cons}
-use borrow.Author.Tests.{lt-ltb, le-ltb, ltb-true, ltb-false, eq-eqb, ne-eqb, leb-true, lt-leb, eqb-false, not-true}
+use borrow.Author.Tests.{lt-ltb, le-ltb, ltb-true, ltb-false, eq-eqb, ne-eqb, leb-true, lt-leb, eqb-true, eqb-false, not-true}
 use mir.Syntax.{w32}
 use mir.Val.{SFits}
 use Rattle.meaning.specs.declared.Read.{Read}
 use Rattle.meaning.specs.declared.Read.the-variants.{Number, Bad}
-use Rattle.meaning.specs.Text.{digit?, span, valueOf, ranged, plain?, unsignedAt, numberAt, pickRead, decimalIn}
+use Rattle.meaning.specs.Text.{digit?, span, valueOf, ranged, plain?, unsignedAt, numberAt, pickRead, decimalIn, signedText, textOf}
 
 -- ---- a run of digits, byte by byte
 
@@ -68,7 +69,7 @@ span-by : (b : Bool) (m n : ℕ) → m ≤ n → cond b (suc m) 0 ≤ suc n
 span-by true m n h = omega arith
 span-by false m n h = omega arith
 
-span-le : (xs : List ℕ) → span xs ≤ length xs
+pub span-le : (xs : List ℕ) → span xs ≤ length xs
 span-le [] = omega arith
 span-le (x ∷ xs) = span-by (digit? x) (span xs) (length xs) (span-le xs)
 
@@ -85,7 +86,7 @@ ranged-big : (n : Bool) (v next : ℕ) → 2147483648 < v → ranged n v next �
 ranged-big true v next h = simp (ne-eqb v 0 (λ (e : v ≡ 0). omega arith), lt-leb _ _ h)
 ranged-big false v next h = simp (le-ltb v 2147483648 (omega arith))
 
-plain-long : (k c : ℕ) → 1 < k → plain? k c ≡ true → c ≡ 48 → ⊥
+pub plain-long : (k c : ℕ) → 1 < k → plain? k c ≡ true → c ≡ 48 → ⊥
 plain-long k c h e =
     let e0 = ne-eqb k 0 (λ (q : k ≡ 0). omega arith) in
     let e1 = ne-eqb k 1 (λ (q : k ≡ 1). omega arith) in
@@ -144,66 +145,75 @@ module _ (s : List ℕ) (at : ℕ) where
       let z : getD s at 0 ≡ 0 = List·getD-eq-default s 0 h in
       number-plain (λ (e : getD s at 0 ≡ 45). omega arith) ∙ unsigned-none false s at (span-end s h)
 
--- ---- a number that was read: it takes at least one byte and fits signed 32 bits
+-- ---- a number that was read: it takes at least one byte, fits signed 32 bits, and its text is its sign and its value's
 
 no-number : {z : ℤ} {p : ℕ} {A : Type 0} → Bad ≡ Number z p → A
 no-number e = let x : _≡_ {A = ℕ} 0 1 = cc in let y : ⊥ = omega arith in absurd y
 
-number-at : {y z : ℤ} {q p : ℕ} → Number y q ≡ Number z p → (p ≡ q) × (y ≡ z)
-number-at e = (cc, cc)
+pub record Ranged (n : Bool) (v next : ℕ) (z : ℤ) (p : ℕ) : Type 0 where
+  pub place : p ≡ next
+  pub fits : SFits w32 z
+  pub small : v < 2 ^ 32
+  pub text : textOf z ≡ signedText n v
 
-low-read : (v next : ℕ) (z : ℤ) (p : ℕ) (b : Bool) → leb v 2147483648 ≡ b → pickRead b (Number (negsuc (v - 1)) next) Bad ≡ Number z p
-    → (p ≡ next) × SFits w32 z
-low-read v next z p true l e =
+ranged-is : {n : Bool} {v next : ℕ} {y z : ℤ} {p : ℕ} → SFits w32 y → v < 2 ^ 32 → textOf y ≡ signedText n v → Number y next ≡ Number z p → Ranged n v next z p
+ranged-is {y = y} {z = z} f h t e = let j : y ≡ z = cc in record { place = cc; fits = rw j at f; small = h; text = ap textOf (sym j) ∙ t }
+
+low-read : (v next : ℕ) (z : ℤ) (p : ℕ) (b : Bool) → leb v 2147483648 ≡ b → (v ≡ 0 → ⊥) → pickRead b (Number (negsuc (v - 1)) next) Bad ≡ Number z p
+    → Ranged true v next z p
+low-read v next z p true l h e =
     let k = leb-true v 2147483648 l in
-    let (i, j) = number-at e in
-    let f : SFits w32 (negsuc (v - 1)) = record { sfits = omega arith } in
-    (i, rw j at f)
-low-read v next z p false l e = no-number e
+    let i : suc (v - 1) ≡ v = omega arith in
+    ranged-is (record { sfits = omega arith }) (omega arith) (ap (signedText true) i) e
+low-read v next z p false l h e = no-number e
 
-high-read : (v next : ℕ) (z : ℤ) (p : ℕ) (b : Bool) → ltb v 2147483648 ≡ b → pickRead b (Number (pos v) next) Bad ≡ Number z p
-    → (p ≡ next) × SFits w32 z
-high-read v next z p true l e =
-    let k = ltb-true v 2147483648 l in
-    let (i, j) = number-at e in
-    let f : SFits w32 (pos v) = record { sfits = k } in
-    (i, rw j at f)
+high-read : (v next : ℕ) (z : ℤ) (p : ℕ) (b : Bool) → ltb v 2147483648 ≡ b → pickRead b (Number (pos v) next) Bad ≡ Number z p → Ranged false v next z p
+high-read v next z p true l e = let k = ltb-true v 2147483648 l in ranged-is (record { sfits = k }) (omega arith) refl e
 high-read v next z p false l e = no-number e
 
-not-zero : (b : Bool) (r : Read) (z : ℤ) (p : ℕ) → pickRead b Bad r ≡ Number z p → r ≡ Number z p
+not-zero : (b : Bool) (r : Read) (z : ℤ) (p : ℕ) → pickRead b Bad r ≡ Number z p → (b ≡ false) × (r ≡ Number z p)
 not-zero true r z p e = no-number e
-not-zero false r z p e = e
+not-zero false r z p e = (refl, e)
 
-ranged-read : (n : Bool) (v next : ℕ) (z : ℤ) (p : ℕ) → ranged n v next ≡ Number z p → (p ≡ next) × SFits w32 z
-ranged-read true v next z p e = low-read v next z p (leb v 2147483648) refl (not-zero (eqb v 0) _ z p e)
+ranged-read : (n : Bool) (v next : ℕ) (z : ℤ) (p : ℕ) → ranged n v next ≡ Number z p → Ranged n v next z p
+ranged-read true v next z p e =
+    let (h, g) = not-zero (eqb v 0) _ z p e in
+    low-read v next z p (leb v 2147483648) refl (eqb-false v 0 h) g
 ranged-read false v next z p e = high-read v next z p (ltb v 2147483648) refl e
 
 plain-some : (k c : ℕ) → plain? k c ≡ true → 0 < k
 plain-some zero c e = let x : _≡_ {A = ℕ} 0 1 = cc in omega arith
 plain-some (suc k) c e = omega arith
 
-plain-by : (b : Bool) (k c : ℕ) (r : Read) (z : ℤ) (p : ℕ) → plain? k c ≡ b → pickRead b r Bad ≡ Number z p → (0 < k) × (r ≡ Number z p)
-plain-by true k c r z p h e = (plain-some k c h, e)
-plain-by false k c r z p h e = no-number e
+plain-by : (b : Bool) (r : Read) (z : ℤ) (p : ℕ) → pickRead b r Bad ≡ Number z p → (b ≡ true) × (r ≡ Number z p)
+plain-by true r z p e = (refl, e)
+plain-by false r z p e = no-number e
 
-unsigned-read : (n : Bool) (s : List ℕ) (at : ℕ) (z : ℤ) (p : ℕ) → unsignedAt n s at ≡ Number z p → (at < p) × SFits w32 z
+-- the digits are plain, and say the number
+pub unsigned-read : (n : Bool) (s : List ℕ) (at : ℕ) (z : ℤ) (p : ℕ) → unsignedAt n s at ≡ Number z p
+    → (plain? (span (drop at s)) (getD s at 0) ≡ true) × Ranged n (valueOf 0 (take (span (drop at s)) (drop at s))) (at + span (drop at s)) z p
 unfolding unsignedAt
 unsigned-read n s at z p e =
     let k : ℕ = span (drop at s) in
-    let (h, r) = plain-by (plain? k (getD s at 0)) k (getD s at 0) (ranged n (valueOf 0 (take k (drop at s))) (at + k)) z p refl e in
-    let (i, f) = ranged-read n (valueOf 0 (take k (drop at s))) (at + k) z p r in
-    (omega arith, f)
+    let (h, r) = plain-by (plain? k (getD s at 0)) (ranged n (valueOf 0 (take k (drop at s))) (at + k)) z p e in
+    (h, ranged-read n (valueOf 0 (take k (drop at s))) (at + k) z p r)
 
-either-read : (b : Bool) (q r : Read) (at : ℕ) (z : ℤ) (p : ℕ) → (q ≡ Number z p → (at + 1 < p) × SFits w32 z) → (r ≡ Number z p → (at < p) × SFits w32 z)
-    → pickRead b q r ≡ Number z p → (at < p) × SFits w32 z
-either-read true q r at z p h k e = let (i, f) = h e in (omega arith, f)
-either-read false q r at z p h k e = k e
+-- with a sign, or without
+pub sign-read : (s : List ℕ) (at : ℕ) (z : ℤ) (p : ℕ) → numberAt s at ≡ Number z p
+    → ((getD s at 0 ≡ 45) × (unsignedAt true s (at + 1) ≡ Number z p)) ⊎ (unsignedAt false s at ≡ Number z p)
+unfolding numberAt
+sign-read s at z p e = go (eqb (getD s at 0) 45) refl e
+  where
+    go : (b : Bool) → eqb (getD s at 0) 45 ≡ b → pickRead b (unsignedAt true s (at + 1)) (unsignedAt false s at) ≡ Number z p
+        → ((getD s at 0 ≡ 45) × (unsignedAt true s (at + 1) ≡ Number z p)) ⊎ (unsignedAt false s at ≡ Number z p)
+    go true h g = inl (eqb-true _ _ h, g)
+    go false h g = inr g
 
 pub number-read : (s : List ℕ) (at : ℕ) (z : ℤ) (p : ℕ) → numberAt s at ≡ Number z p → (at < p) × SFits w32 z
-unfolding numberAt
-number-read s at z p e =
-    either-read (eqb (getD s at 0) 45) (unsignedAt true s (at + 1)) (unsignedAt false s at) at z p
-    (unsigned-read true s (at + 1) z p) (unsigned-read false s at z p) e
+number-read s at z p e = ⊎-elim (λ (_, g). let (l, f) = by true (at + 1) g in (omega arith, f)) (by false at) (sign-read s at z p e)
+  where
+    by : (n : Bool) (i : ℕ) → unsignedAt n s i ≡ Number z p → (i < p) × SFits w32 z
+    by n i g = let (h, r) = unsigned-read n s i z p g in let k = plain-some (span (drop i s)) (getD s i 0) h in let l = r .place in (omega arith, r .fits)
 
 -- ---- a number written
 

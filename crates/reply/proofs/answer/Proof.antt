@@ -10,8 +10,9 @@ use Rattle.meaning.specs.Job.{mostJobTargets, Asked, asks, jobOf}
 use Rattle.meaning.specs.Listing.{replyTo}
 use Rattle.job.specs.declared.Parsed.{Parsed}
 use Rattle.job.specs.Held.{noTargets, parsedOf}
-use Rattle.job.proofs.Laws.{most-targets, kept-targets, targets-fit, wants-job, malformed-job}
+use Rattle.job.proofs.Laws.{kept-targets, wants-job, malformed-job}
 use Rattle.reply.specs.Drawing.{Narrow}
+use Rattle.laws.proofs.Text.Asked.{most-targets, targets-fit}
 use Rattle.laws.proofs.Text.Jobs.{malformed-text, asked-text}
 use Rattle.reply.proofs.Printing.{print-short, print-text}
 use Rattle.reply.proofs.answer.Statement.{statement}
