@@ -15,10 +15,12 @@ import shutil
 import subprocess
 import sys
 import tempfile
+from concurrent.futures import ThreadPoolExecutor
 
 ROOT = os.path.dirname(os.path.dirname(os.path.abspath(__file__)))
 EDITS = os.path.join(ROOT, "tests", "wrong")
 CRATES = ["meaning", "laws", "tender"]
+PROVERS = 2
 # What only says that a text is not in order.
 NOT_A_FACT = re.compile(r"not in scope|expected `|cannot go on|no `mod`|has no `|cannot be named|is not a constructor")
 
@@ -90,37 +92,51 @@ def judge(status, said):
     return None, f"{where[1]}/{where[2]}, {where[3]}" if where else facts[0][:120]
 
 
-def main(args):
+def try_edit(room, name, comments, files):
+    """What is wrong with the entry, or None; and where it was refused."""
+    saved, fault = apply_edit(room, files)
+    where = ""
+    if fault is None and not any(comment.startswith("Promise: ") for comment in comments):
+        fault = "it names no promise"
+    if fault is None:
+        fault, where = judge(*prove(room))
+    for path, before in saved:
+        with open(path, "w", encoding="utf-8") as out:
+            out.write(before)
+    print(f"wrong: {name}: " + (f"refused ({where})" if fault is None else f"FAILED: {fault} {where}"), flush=True)
+    return fault is None
+
+
+def chosen(args):
     names = sorted(entry[:-5] for entry in os.listdir(EDITS) if entry.endswith(".edit"))
     edits = {name: read_edit(name) for name in names}
     if args == ["--gate"]:
         names = [name for name in names if "gate" in edits[name][0]]
     elif args:
         names = args
-    good = bad = 0
-    with tempfile.TemporaryDirectory() as room:
-        copy_tree(room)
-        status, said = prove(room)
+    return [(name, *edits[name]) for name in names]
+
+
+def main(args):
+    edits = chosen(args)
+    with tempfile.TemporaryDirectory() as top:
+        first = os.path.join(top, "0")
+        copy_tree(first)
+        status, said = prove(first)
         if status != 0:
             print(said[-2000:])
             print("wrong: the definitions as they are are not proved")
             print("0 passed, 1 failed")
             return 1
-        for name in names:
-            comments, files = edits[name]
-            saved, fault = apply_edit(room, files)
-            where = ""
-            if fault is None and not any(comment.startswith("Promise: ") for comment in comments):
-                fault = "it names no promise"
-            if fault is None:
-                fault, where = judge(*prove(room))
-            for path, before in saved:
-                with open(path, "w", encoding="utf-8") as out:
-                    out.write(before)
-            print(f"wrong: {name}: " + (f"refused ({where})" if fault is None else f"FAILED: {fault} {where}"), flush=True)
-            good, bad = good + (fault is None), bad + (fault is not None)
-    print(f"{good} passed, {bad} failed")
-    return 1 if bad else 0
+        # a copy for each prover, with what is proved
+        rooms = [first] + [os.path.join(top, str(k)) for k in range(1, PROVERS)]
+        for room in rooms[1:]:
+            shutil.copytree(first, room, symlinks=True)
+        with ThreadPoolExecutor(PROVERS) as pool:
+            share = lambda k: [try_edit(rooms[k], *edit) for edit in edits[k::PROVERS]]
+            results = [good for goods in pool.map(share, range(PROVERS)) for good in goods]
+    print(f"{sum(results)} passed, {len(results) - sum(results)} failed")
+    return 0 if all(results) else 1
 
 
 if __name__ == "__main__":

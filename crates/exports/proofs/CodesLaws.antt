@@ -1,6 +1,6 @@
 -- What a caller can read off a code: whether the call refused, by which number and at what place. A place is at most 129 in every
 -- call: targets (16), rows (128), a ready list's values (129); a job is refused in its text, and its code has no place. A contract
--- allows one code and one content of the lent slice: `one-answer` and `one-done` (laws/proofs/Stages.antt). Assumes nothing.
+-- allows one code and one content of the lent slice. Assumes nothing.
 use mathlib.Core.Path.{_≡_, refl, sym, ap, ap₂, _∙_, subst}
 use mathlib.Core.Bool.{Bool, false, cond, _&&_}
 use mathlib.Core.List.{List, [], _∷_, _++_}
@@ -18,11 +18,21 @@ use Rattle.meaning.specs.Graph.{rowLength, rowTests, rows, values, fits?, serve
 use Rattle.meaning.specs.Limits.{between, bitTests, limit, mostTargets, mostRows, mostReady, widthTests}
 use Rattle.meaning.specs.Constants.{oddOf}
 use Rattle.meaning.specs.Generator.{generated}
-use Rattle.meaning.specs.Refusals.{number, placeOf, need, needEach, firstOf, bitLimit, listLength, rowCount, validRows, allServed, inputWidth, buffer, fewRows, admitOrder, checkOrder, productsOrder, widthsOrder, rankingOrder, generateOrder, distanceOrder, checked, multiplied, measured, ranked, drawn, apartTold}
+use Rattle.meaning.specs.Refusals.{number, placeOf, Done, need, needEach, firstOf, bitLimit, listLength, rowCount, validRows, allServed, inputWidth, buffer, fewRows, admitOrder, checkOrder, productsOrder, widthsOrder, rankingOrder, generateOrder, distanceOrder, checked, multiplied, measured, ranked, drawn, apartTold}
 use Rattle.laws.proofs.Graph.Rows.{length-rows}
 use Rattle.laws.proofs.Refusals.Stages.{never-both, need-accepts, need-refuses}
 use Rattle.laws.proofs.Refusals.Members.{each-refuses}
-use Rattle.exports.specs.Codes.{minus, refusalCode}
+use Rattle.exports.specs.Codes.{minus, refusalCode, Coded}
+
+-- ---- one code
+
+pub one-told : {R : Type 0} (d : R) (code : R → ℤ) (r q : ℤ) → Coded (λ a. a ≡ d) code r → Coded (λ a. a ≡ d) code q → r ≡ q
+one-told d code r q x y = x .told ∙ ap code (x .call ∙ sym (y .call)) ∙ sym (y .told)
+
+pub one-coded : {R A : Type 0} (d : R) (w before : List A) (code : R → ℤ) (r q : ℤ) (after later : List A)
+    → Coded (λ a. Done d w a before after) code r → Coded (λ a. Done d w a before later) code q → (r ≡ q) × (after ≡ later)
+one-coded d w before code r q after later x y =
+    (x .told ∙ ap code (x .call .answers ∙ sym (y .call .answers)) ∙ sym (y .told), x .call .writes ∙ sym (y .call .writes))
 
 -- ---- number and place
 
