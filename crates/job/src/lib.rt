@@ -11,7 +11,7 @@ use text::forms::End;
 ghost use mathlib.Core.Path.{_≡_};
 ghost use lib.ListN.{length, set};
 ghost use Rattle.meaning.specs.Forms.{bad, lineAt};
-ghost use Rattle.meaning.specs.Job.{Job, jobOf, only, reportLine, targetsLine, numbers as Job·numbers};
+ghost use Rattle.meaning.specs.Job.{Job, jobOf, only, reportAt, targetsAt, numbers as Job·numbers};
 ghost use Rattle.job.specs.Held.{readOf, orderOf, targetsOf, noTargets, parsedOf};
 
 // The line of a form with one number: the number, and where the next line begins.
@@ -34,7 +34,7 @@ enum Order {
 }
 
 fn report_line(s: &[u8], at: usize) -> Order
-    ensures { λ r. ⌜ r ≡ orderOf (reportLine (now (s .entry)) at) ⌝ }
+    ensures { λ r. ⌜ r ≡ orderOf (reportAt (now (s .entry)) at) ⌝ }
 {
     if text::stands(s, at, &BY_WIDTH) {
         return Order::By(true, at + 13);
@@ -100,7 +100,7 @@ fn numbers(s: &[u8], from: usize) -> Targets
 }
 
 fn targets_line(s: &[u8], at: usize) -> Targets
-    ensures { λ r. ⌜ r ≡ targetsOf 0 noTargets (targetsLine (now (s .entry)) at) ⌝ }
+    ensures { λ r. ⌜ r ≡ targetsOf 0 noTargets (targetsAt (now (s .entry)) at) ⌝ }
 {
     if !text::stands(s, at, b"targets=") {
         return none();

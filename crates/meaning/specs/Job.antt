@@ -38,8 +38,8 @@ only (good zs p) = good (getD zs 0 (pos 0)) p
 only bad = bad
 
 -- one of two whole lines
-unfoldable pub reportLine : List ℕ → ℕ → Line Bool
-reportLine s at =
+unfoldable pub reportAt : List ℕ → ℕ → Line Bool
+reportAt s at =
     cond (stands (reportText true) s at) (good true (at + length (reportText true)))
     (cond (stands (reportText false) s at) (good false (at + length (reportText false))) bad)
 
@@ -54,8 +54,8 @@ numbers (suc most) s at =
     bad
 
 -- the list may be empty
-unfoldable pub targetsLine : List ℕ → ℕ → Line (List ℤ)
-targetsLine s at =
+unfoldable pub targetsAt : List ℕ → ℕ → Line (List ℤ)
+targetsAt s at =
     cond (stands (bytes "targets=") s at)
     (cond (stands (bytes "\n") s (at + 8)) (good [] (at + 9)) (numbers (length s) s (at + 8)))
     bad
@@ -75,8 +75,8 @@ jobOf s =
     cond (leb (length s) mostBytes)
     (next (only (lineAt bitsForm s 0)) 1 λ b line at.
     next (only (lineAt inputForm s at)) line λ w line at.
-    next (reportLine s at) line λ r line at.
-    next (targetsLine s at) line λ ts line at.
+    next (reportAt s at) line λ r line at.
+    next (targetsAt s at) line λ ts line at.
     ended s (asks (record { head = record { bits = b; input = w; «by_width» = r }; targets = ts })) line at)
     (malformed 0)
 

@@ -27,13 +27,13 @@ use Rattle.meaning.specs.Generator.{generated}
 use Rattle.meaning.specs.Digits.{nonzeros, formOf}
 use Rattle.meaning.specs.Listing.{jobText, printedTold, textWritten}
 use Rattle.meaning.specs.Job.{Asked, bitsOf, inputOf, jobOrder}
-use Rattle.meaning.specs.Refusals.{need, needEach, oddParts, number, placeOf, given, drawnAs, farAs, formedAs, firstOf, admitOrder, checkOrder, sizedOrder, productsOrder, widthsOrder, rankingOrder, generateOrder, distanceOrder, buffer, rowCount, validRows, allServed, fewRows, inputWidth, readyValues, target, admitted, checked, sized, multiplied, productsWritten, measured, widthsWritten, ranked, rankingWritten, drawn, drawnTold, rowsWritten, distanceTold, apartTold, apartWritten, canonicTold, canonicWritten}
+use Rattle.meaning.specs.Refusals.{Done, need, needEach, oddParts, number, placeOf, given, drawnAs, farAs, formedAs, firstOf, admitOrder, checkOrder, sizedOrder, productsOrder, widthsOrder, rankingOrder, generateOrder, distanceOrder, buffer, rowCount, validRows, allServed, fewRows, inputWidth, readyValues, target, admitted, checked, sized, multiplied, productsWritten, measured, widthsWritten, ranked, rankingWritten, drawn, drawnTold, rowsWritten, distanceTold, apartTold, apartWritten, canonicTold, canonicWritten}
 use Rattle.laws.proofs.Lists.Tests.{All, all-of, of-all, false-of, both-of, of-both, either-of, of-left, of-right, eq→eqb}
 use Rattle.laws.proofs.Lists.Has.{in-has, has-in}
-use Rattle.laws.proofs.Refusals.Stages.{never-both, refused-same, need-refuses, over-none}
+use Rattle.laws.proofs.Refusals.Stages.{never-both, refused-same, need-refuses, one-done, over-none}
 use Rattle.laws.proofs.Refusals.Members.{each-refuses, refuses-each}
 use Rattle.tender.specs.Words.{ValidRow}
-use Rattle.tender.specs.Table.{Line, FirstOf, line3, line4, line5, line6, line7, line8, line9, line10values, line11, jobLines, admitTable, checkTable, widthTable, generateTable, distanceTable}
+use Rattle.tender.specs.Table.{Situation, FirstOf, line3, line4, line5, line6, line7, line8, line9, line10values, line11, jobLines, admitTable, checkTable, widthTable, generateTable, distanceTable}
 use Rattle.meaning.specs.Calls.{Admits, Checks, ChecksWidth, Distances, TakesApart, WritesForm, Generates, Multiplies, Measures, Ranks, Prints}
 use Rattle.tender.specs.Condition1.{IsRefusal, Refuses, RefusesLent}
 use Rattle.tender.proofs.Rows.{row-of-test, test-of-row}
@@ -41,22 +41,22 @@ use Rattle.tender.proofs.Rows.{row-of-test, test-of-row}
 -- ---- stages and their lines
 
 -- a stage refuses exactly by its line
-abbrev Exactly : Answer → Line → Type 0
+abbrev Exactly : Answer → Situation → Type 0
 Exactly a L = (N P : ℕ) → IsRefusal Refused a N P ↔ L N P
 
-abbrev Told : List Answer → List Line → Type 0
+abbrev Told : List Answer → List Situation → Type 0
 Told [] [] = Unit {0}
 Told [] (L ∷ Ls) = ⊥
 Told (a ∷ xs) [] = ⊥
 Told (a ∷ xs) (L ∷ Ls) = Exactly a L × Told xs Ls
 
-told-append : (xs bs : List Answer) (Ls Ms : List Line) → Told xs Ls → Told bs Ms → Told (xs ++ bs) (Ls ++ Ms)
+told-append : (xs bs : List Answer) (Ls Ms : List Situation) → Told xs Ls → Told bs Ms → Told (xs ++ bs) (Ls ++ Ms)
 told-append [] bs [] Ms t u = u
 told-append [] bs (L ∷ Ls) Ms t u = absurd t
 told-append (a ∷ xs) bs [] Ms t u = absurd t
 told-append (a ∷ xs) bs (L ∷ Ls) Ms t u = (t .0, told-append xs bs Ls Ms (t .1) u)
 
-told-last : (xs : List Answer) (Ls : List Line) → Told xs Ls → (a : Answer) (L : Line) → Exactly a L → Told (xs ++ (a ∷ [])) (Ls ++ (L ∷ []))
+told-last : (xs : List Answer) (Ls : List Situation) → Told xs Ls → (a : Answer) (L : Situation) → Exactly a L → Told (xs ++ (a ∷ [])) (Ls ++ (L ∷ []))
 told-last xs Ls t a L e = told-append xs (a ∷ []) Ls (L ∷ []) t (e, tt)
 
 -- an acceptance is no refusal
@@ -64,7 +64,7 @@ accepts : (N P : ℕ) → ¬ (IsRefusal Refused Accepted N P)
 accepts N P r = never-both (r .0) (r .1)
 
 -- the first stage that refuses is the first line whose situation holds
-pub exactly : (xs : List Answer) (Ls : List Line) → Told xs Ls → Exactly (firstOf xs) (FirstOf Ls)
+pub exactly : (xs : List Answer) (Ls : List Situation) → Told xs Ls → Exactly (firstOf xs) (FirstOf Ls)
 exactly [] [] t N P = (λ r. absurd (accepts N P r), λ x. absurd x)
 exactly [] (L ∷ Ls) t N P = absurd t
 exactly (a ∷ xs) [] t N P = absurd t
@@ -237,7 +237,7 @@ distance-answers L vals c y = go (has vals c) (reach? L vals c) (any (serves? L 
     go false false false e = let z : _≡_ {A = ℕ} 0 1 = cc in omega arith
 
 -- the stages' answer, given as r
-module _ (xs : List Answer) (Ls : List Line) (t : Told xs Ls) where
+module _ (xs : List Answer) (Ls : List Situation) (t : Told xs Ls) where
   by-stages : (r : Answer) → r ≡ firstOf xs → (N P : ℕ) → IsRefusal Refused r N P ↔ FirstOf Ls N P
   by-stages r e N P = both-ways (λ q. (q .0, sym e ∙ q .1, q .2, q .3), λ q. (q .0, e ∙ q .1, q .2, q .3)) (exactly xs Ls t N P)
 
@@ -254,15 +254,33 @@ still (Refused y) why ws before after e f = f ∙ over-none before
 
 -- ---- the calls
 
+-- a call that answers a definition's value
+by-value : {R : Type 0} (refused : Refusal → R) (d : R) (Ls : List Situation) → ((r : R) → r ≡ d → (N P : ℕ) → IsRefusal refused r N P ↔ FirstOf Ls N P)
+    → Refuses refused (λ r. r ≡ d) Ls
+by-value refused d Ls e = record { answers = (d, refl); one-answer = λ r q a b. a ∙ sym b; exactly = e }
+
+-- a call that writes what a definition says: it has an answer, and no other
+module _ {R A : Type 0} (d : ℕ → R) (w : ℕ → List A) where
+  abbrev Does : R → List A → List A → Type 0
+  Does r before after = Done (d (length before)) (w (length before)) r before after
+
+  some-done : (before : List A) → (r : R) × (after : List A) × Does r before after
+  some-done before = (d (length before), over (w (length before)) before, record { answers = refl; writes = refl })
+
+  no-other : (r q : R) (before after later : List A) → Does r before after → Does q before later → (r ≡ q) × (after ≡ later)
+  no-other r q before after later x y = one-done (d (length before)) (w (length before)) before r q after later x y
+
 module _ (b : ℕ) (ts : List ℤ) where
   pub admit : Refuses Refused (Admits b ts) (admitTable b ts)
   unfolding admitted
-  admit = by-stages (admitOrder b ts) (admitTable b ts) (admit-told b ts)
+  admit = by-value Refused _ (admitTable b ts) (by-stages (admitOrder b ts) (admitTable b ts) (admit-told b ts))
 
   pub generate : RefusesLent drew.Refused (Generates b ts) (generateTable b ts)
   unfolding drawnTold drawn rowsWritten
   generate =
       record {
+        answers = some-done (drawnTold b ts) (rowsWritten b ts);
+        one-answer = no-other (drawnTold b ts) (rowsWritten b ts);
         exactly = λ r before after d.
             by-handed (generateOrder b ts (length before)) (generateTable b ts (length before)) (generate-told b ts (length before)) drew.Refused r _ (d .answers)
             (drawn-told (firstOf (generateOrder b ts (length before))) (length (generated b ts)));
@@ -274,16 +292,18 @@ module _ (b : ℕ) (ts : List ℤ) where
   module _ (n : ℕ) (w : List ℕ) where
     pub check : Refuses Refused (Checks b ts n w) (checkTable b ts n w)
     unfolding checked
-    check = by-stages (checkOrder b ts n w) (checkTable b ts n w) (check-told b ts n w)
+    check = by-value Refused _ (checkTable b ts n w) (by-stages (checkOrder b ts n w) (checkTable b ts n w) (check-told b ts n w))
 
     pub check-width : (input : ℕ) → Refuses Refused (ChecksWidth b ts n w input) (widthTable b ts n w input)
     unfolding sized
-    check-width input = by-stages (sizedOrder b ts n w input) (widthTable b ts n w input) (width-told b ts n w input)
+    check-width input = by-value Refused _ (widthTable b ts n w input) (by-stages (sizedOrder b ts n w input) (widthTable b ts n w input) (width-told b ts n w input))
 
     pub multiply : (x : ℤ) → RefusesLent Refused (Multiplies b ts n w x) (λ room. checkTable b ts n w ++ (line4 (length ts) room ∷ []))
     unfolding multiplied productsWritten
     multiply x =
         record {
+          answers = some-done (multiplied b ts n w) (productsWritten b ts n w x);
+          one-answer = no-other (multiplied b ts n w) (productsWritten b ts n w x);
           exactly = λ r before after d.
               by-stages (productsOrder b ts n w (length before)) (checkTable b ts n w ++ (line4 (length ts) (length before) ∷ []))
               (told-last (checkOrder b ts n w) (checkTable b ts n w) (check-told b ts n w) (buffer (length ts) (length before)) (line4 (length ts) (length before)) (above no.Buffer (length ts) (length before)))
@@ -295,6 +315,8 @@ module _ (b : ℕ) (ts : List ℤ) where
     unfolding measured widthsWritten
     measure input =
         record {
+          answers = some-done (measured b ts n w input) (widthsWritten b ts n w input);
+          one-answer = no-other (measured b ts n w input) (widthsWritten b ts n w input);
           exactly = λ r before after d.
               by-stages (widthsOrder b ts n w input (length before)) (widthTable b ts n w input ++ (line4 (n + length ts) (length before) ∷ []))
               (told-last (sizedOrder b ts n w input) (widthTable b ts n w input) (width-told b ts n w input) (buffer (n + length ts) (length before)) (line4 (n + length ts) (length before)) (above no.Buffer (n + length ts) (length before)))
@@ -306,6 +328,8 @@ module _ (b : ℕ) (ts : List ℤ) where
     unfolding ranked rankingWritten
     rank input =
         record {
+          answers = some-done (ranked b ts n w input) (rankingWritten b ts n w input);
+          one-answer = no-other (ranked b ts n w input) (rankingWritten b ts n w input);
           exactly = λ r before after d.
               by-stages (rankingOrder b ts n w input (length before)) (widthTable b ts n w input ++ (line4 n (length before) ∷ []))
               (told-last (sizedOrder b ts n w input) (widthTable b ts n w input) (width-told b ts n w input) (buffer n (length before)) (line4 n (length before)) (above no.Buffer n (length before)))
@@ -315,9 +339,10 @@ module _ (b : ℕ) (ts : List ℤ) where
 
 pub distance-refuses : (b : ℕ) (vals : List ℕ) (c : ℕ) → Refuses far.Refused (Distances b vals c) (distanceTable b vals c)
 unfolding distanceTold
-distance-refuses b vals c r e =
+distance-refuses b vals c =
+    by-value far.Refused _ (distanceTable b vals c) (λ r e.
     by-handed (distanceOrder b vals c) (distanceTable b vals c) (distance-stages b vals c) far.Refused r _ e
-    (λ why. far-told (firstOf (distanceOrder b vals c)) (distance (limit b) vals c) why (distance-answers (limit b) vals c))
+    (λ why. far-told (firstOf (distanceOrder b vals c)) (distance (limit b) vals c) why (distance-answers (limit b) vals c)))
 
 -- a buffer alone
 module _ (needed room : ℕ) where
@@ -335,6 +360,8 @@ pub apart : (t : ℤ) → RefusesLent Refused (TakesApart t) (λ room. line4 3 r
 unfolding apartTold apartWritten
 apart t =
     record {
+      answers = some-done apartTold (apartWritten t);
+      one-answer = no-other apartTold (apartWritten t);
       exactly = λ r before after d. by-room 3 (length before) Refused r (buffer 3 (length before)) (d .answers) (λ why. (λ q. q, λ q. q));
       quiet = λ why before after d. still _ why _ before after (sym (d .answers)) (d .writes);
     }
@@ -343,6 +370,8 @@ pub canonic : (t : ℤ) → RefusesLent formed.Refused (WritesForm t) (λ room. 
 unfolding canonicTold canonicWritten
 canonic t =
     record {
+      answers = some-done (canonicTold t) (canonicWritten t);
+      one-answer = no-other (canonicTold t) (canonicWritten t);
       exactly = λ r before after d. by-room 2 (length before) formed.Refused r _ (d .answers) (formed-told (buffer 2 (length before)) (nonzeros (formOf t)));
       quiet = λ why before after d.
           still (buffer 2 (length before)) why _ before after (formed-told (buffer 2 (length before)) (nonzeros (formOf t)) why .0 (sym (d .answers))) (d .writes);
@@ -352,6 +381,8 @@ pub print : (s : List ℕ) → RefusesLent printed.Refused (Prints s) (λ room. 
 unfolding printedTold textWritten
 print s =
     record {
+      answers = some-done (printedTold s) (textWritten s);
+      one-answer = no-other (printedTold s) (textWritten s);
       exactly = λ r before after d. by-room 8769 (length before) printed.Refused r _ (d .answers) (λ why. printed-told (leb 8769 (length before)) why);
       quiet = λ why before after d. quiet-of (leb 8769 (length before)) why before after (d .answers) (d .writes);
     }

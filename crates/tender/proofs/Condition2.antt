@@ -5,7 +5,7 @@ use mathlib.Core.List.{List, [], _∷_, _++_, map, map-append, List·Memᴰ, Lis
 use mathlib.Core.Logic.{_⊎_, inl, inr, ⊎-elim, _↔_}
 use Prim.Native.Nat.{ℕ, zero, suc, _+_, _-_, _*_, _%_, _^_, _≤_, _<_}
 use native.Mathlib.Omega.{arith}
-use lib.Dec.{T, leb, leb→le, le→leb}
+use lib.Dec.{T, eqb, leb, leb→le, le→leb}
 use lib.IntN.{ℤ, pos, negsuc, natAbs, _*ℤ_, *ℤ-comm}
 use lib.ListN.{length, getD, drop, length-append, length-map, length-drop, List·getD-append}
 use lib.Seq.{drop-append-seam, getD-append-add}
@@ -21,7 +21,7 @@ use Rattle.meaning.specs.Operation.{whole, operated, operatedUnder}
 use Rattle.meaning.specs.Constants.{signOf, oddOf}
 use Rattle.meaning.specs.Graph.{rowAfter, rows, values, served?}
 use Rattle.meaning.specs.Products.{products, targetProducts}
-use Rattle.meaning.specs.Widths.{Fewest, rowWidth, outputWidth, widths, ranking, InOrder}
+use Rattle.meaning.specs.Widths.{extraBits, Fewest, rowWidth, outputWidth, widths, ranking, InOrder}
 use Rattle.meaning.specs.Refusals.{checkOrder, sizedOrder, productsOrder, widthsOrder, checked, sized, multiplied, productsWritten, measured, widthsWritten, rankingWritten, given}
 use Rattle.meaning.specs.Calls.{Admits, Checks, Operates, Multiplies, Measures, Ranks}
 use Rattle.laws.proofs.Lists.Tests.{up-in, all-of, of-all, T-of, true-of, either-of, of-left, of-right, in-every}
@@ -159,12 +159,20 @@ in-order-by f g (i ∷ is) same o = (
 -- ---- widths
 
 -- what is the fewest bits for c × x is so for a result that is c × x
-fewest-for : (w : ℕ) (c : ℤ) (result : ℤ → ℤ) (k j : ℕ) → ((x : ℤ) → result x ≡ c *ℤ x) → j ≡ k → Fewest w c k → FewestBits w result j
-fewest-for w c result k j same e f =
+fewest-for : (w : ℕ) (c : ℤ) (result : ℤ → ℤ) (k j : ℕ) → ((x : ℤ) → result x ≡ c *ℤ x) → j ≡ k → 1 ≤ k → Fewest w c k → FewestBits w result j
+fewest-for w c result k j same e o f =
     record {
+      some = omega arith;
       holds = λ x h. subst₂ FitsBits (sym e) (sym (same x)) (f .holds x h);
       least = λ i p q. let (x, h, n) = f .least i p (omega arith) in (x, h, λ g. n (subst (FitsBits i) (same x) g));
     }
+
+output-some : (w : ℕ) (t : ℤ) → 2 ≤ w → 1 ≤ outputWidth w t
+output-some w t h = go (eqb (natAbs t) 0)
+  where
+    go : (b : Bool) → 1 ≤ cond b 1 (w + extraBits (natAbs t))
+    go true = omega arith
+    go false = omega arith
 
 module _ (b : ℕ) (ts : List ℤ) (n : ℕ) (w : List ℕ) (input : ℕ) (before after : List ℕ) (d : Measures b ts n w input Accepted before after) where
   abbrev vals : List ℕ
@@ -224,7 +232,7 @@ module _ (b : ℕ) (ts : List ℤ) (n : ℕ) (w : List ℕ) (input : ℕ) (befor
 
   pub row-widths : (k : ℕ) → k < n → FewestBits input (λ x. getD (products (rows n w) x) (suc k) (pos 0)) (getD after k 0)
   row-widths k h =
-      fewest-for input (pos (rowIn w k .value)) _ _ _ (product k h) (row-word k h) (row-fewest input (rowIn w k .value) (good .width .0) (value-some k h))
+      fewest-for input (pos (rowIn w k .value)) _ _ _ (product k h) (row-word k h) (omega (arith, good .width .0)) (row-fewest input (rowIn w k .value) (good .width .0) (value-some k h))
 
   pub wide-widths : (k : ℕ) → k < n
       → FewestBits input (λ x. pos (2 ^ rowIn w k .r) *ℤ getD (products (rows n w) x) (suc k) (pos 0)) (getD after k 0 + rowIn w k .r)
@@ -233,12 +241,12 @@ module _ (b : ℕ) (ts : List ℤ) (n : ℕ) (w : List ℕ) (input : ℕ) (befor
       let r = rowIn w k .r in
       fewest-for input (pos (v * 2 ^ r)) _ _ _
       (λ x. ap (λ z. pos (2 ^ r) *ℤ z) (product k h x) ∙ sym (mul-assocℤ (pos (2 ^ r)) (pos v) x) ∙ ap (λ z. z *ℤ x) (*ℤ-comm (pos (2 ^ r)) (pos v)))
-      (ap (λ z. z + r) (row-word k h)) (shifted-fewest input v r (good .width .0) (value-some k h))
+      (ap (λ z. z + r) (row-word k h)) (omega (arith, good .width .0)) (shifted-fewest input v r (good .width .0) (value-some k h))
 
   pub output-rule : (k : ℕ) → k < length ts → FewestBits input (λ x. pos (natAbs (getD ts k (pos 0))) *ℤ x) (getD after (n + k) 0)
   output-rule k h =
       let t = getD ts k (pos 0) in
-      fewest-for input (pos (natAbs t)) _ _ _ (λ x. refl) (output-word k h) (output-fewest input (pos (natAbs t)) (good .width .0) (λ e. absurd (not-below (natAbs t) e)))
+      fewest-for input (pos (natAbs t)) _ _ _ (λ x. refl) (output-word k h) (output-some input t (good .width .0)) (output-fewest input (pos (natAbs t)) (good .width .0) (λ e. absurd (not-below (natAbs t) e)))
     where
       not-below : (m : ℕ) → ¬ (signOf (pos m) ≡ negsuc 0)
       not-below zero e = let z : _≡_ {A = ℕ} 0 1 = cc in omega arith
@@ -246,7 +254,7 @@ module _ (b : ℕ) (ts : List ℤ) (n : ℕ) (w : List ℕ) (input : ℕ) (befor
 
   pub output-widths : (k : ℕ) → k < length ts → (signOf (getD ts k (pos 0)) ≡ negsuc 0 → ¬ (oddOf (getD ts k (pos 0)) ≡ 1))
       → FewestBits input (λ x. getD ts k (pos 0) *ℤ x) (getD after (n + k) 0)
-  output-widths k h q = fewest-for input (getD ts k (pos 0)) _ _ _ (λ x. refl) (output-word k h) (output-fewest input (getD ts k (pos 0)) (good .width .0) q)
+  output-widths k h q = fewest-for input (getD ts k (pos 0)) _ _ _ (λ x. refl) (output-word k h) (output-some input (getD ts k (pos 0)) (good .width .0)) (output-fewest input (getD ts k (pos 0)) (good .width .0) q)
 
   pub widths-kept : (length after ≡ length before) × (drop (n + length ts) after ≡ drop (n + length ts) before)
   widths-kept = front-kept (ws ++ map (outputWidth input) ts) before after (n + length ts) both-count room written

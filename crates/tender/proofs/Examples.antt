@@ -11,7 +11,7 @@ use Rattle.meaning.specs.declared.Refusal.the-variants as no
 use Rattle.meaning.specs.declared.Row.{Row}
 use Rattle.meaning.specs.Basics.{indexFrom, sumOf, firstSome, andThen, zerosIn, zeros}
 use Rattle.meaning.specs.Constants.{apart, insert, wanted}
-use Rattle.meaning.specs.Operation.{whole, Valid, outcome?, valid?, operated}
+use Rattle.meaning.specs.Operation.{whole, Valid, outcome?, valid?, operated, operatedUnder}
 use Rattle.meaning.specs.Graph.{rows, fits?, outputIndex}
 use Rattle.meaning.specs.Distance.{gives?, shiftPairs, oneOp?, reach?, serves?, candidates, distance}
 use Rattle.meaning.specs.Digits.{nonzeros, digitsIn, canonic, prefixesFrom, prefixes}
@@ -21,7 +21,7 @@ use Rattle.meaning.specs.Widths.{leastFrom, extraBits, place, rankedFrom, ranki
 use Rattle.meaning.specs.Refusals.{needEach, validRows, allServed, firstOf, admitted, checked, distanceTold}
 use Rattle.meaning.specs.Text.{stands, unsignedAt, numberAt, unsignedText}
 use Rattle.meaning.specs.Forms.{lineAt, lineOf, linesOf}
-use Rattle.meaning.specs.Job.{jobOf, reportLine, numbers, targetsLine}
+use Rattle.meaning.specs.Job.{jobOf, reportAt, numbers, targetsAt}
 use Rattle.meaning.specs.Listing.{headText, rowNumbers, outNumbers, outsFrom, listingOf, listing, replyTo, jobText}
 use Rattle.laws.proofs.Graph.Rows.{fits-of-test}
 use Rattle.laws.proofs.Lists.Tests.{false-of}
@@ -60,11 +60,11 @@ never L u r c k = let h = k .outcome .nonzero in omega arith
 
 -- the sample, by computation
 sample-text : jobText sampleJob ≡ sampleListing
-unfolding indexFrom sumOf firstSome andThen zerosIn zeros apart insert wanted outcome? valid? outputIndex gives? shiftPairs nonzeros digitsIn canonic chosen choiceFor rowFor remaining ruleA orElse added turn turns generated leastFrom extraBits place rankedFrom ranking needEach stands unsignedAt numberAt unsignedText lineOf linesOf lineAt reportLine numbers targetsLine jobOf headText rowNumbers outNumbers outsFrom listingOf listing replyTo jobText
+unfolding indexFrom sumOf firstSome andThen zerosIn zeros apart insert wanted outcome? valid? outputIndex gives? shiftPairs nonzeros digitsIn canonic chosen choiceFor rowFor remaining ruleA orElse added turn turns generated leastFrom extraBits place rankedFrom ranking needEach stands unsignedAt numberAt unsignedText lineOf linesOf lineAt reportAt numbers targetsAt jobOf headText rowNumbers outNumbers outsFrom listingOf listing replyTo jobText
 sample-text = refl
 
 pub examples : Examples
-unfolding indexFrom sumOf firstSome andThen zerosIn zeros apart insert wanted outcome? valid? operated rows fits? outputIndex gives? shiftPairs oneOp? reach? serves? candidates distance nonzeros digitsIn canonic prefixesFrom prefixes chosen choiceFor rowFor remaining ruleA trials serve ruleB ruleC orElse added turn turns generated rowProduct productsFrom products targetProduct targetProducts leastFrom extraBits place rankedFrom ranking needEach admitted distanceTold
+unfolding indexFrom sumOf firstSome andThen zerosIn zeros apart insert wanted outcome? valid? operated operatedUnder rows fits? outputIndex gives? shiftPairs oneOp? reach? serves? candidates distance nonzeros digitsIn canonic prefixesFrom prefixes chosen choiceFor rowFor remaining ruleA trials serve ruleB ruleC orElse added turn turns generated rowProduct productsFrom products targetProduct targetProducts leastFrom extraBits place rankedFrom ranking needEach admitted distanceTold
 examples =
     record {
       p1 = refl;

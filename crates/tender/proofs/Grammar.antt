@@ -14,7 +14,7 @@ use borrow.Author.Tests.{eq-eqb, ne-eqb, eqb-true, eqb-false, le-leb, lt-leb, le
 use Rattle.meaning.specs.declared.Read.the-variants.{Bad}
 use Rattle.meaning.specs.Text.{bytes, stands, numberAt, textOf}
 use Rattle.meaning.specs.Forms.{Line, good, bad, front, lineAt, bitsForm, inputForm, reportText}
-use Rattle.meaning.specs.Job.{Asked, Job, asks, malformed, mostBytes, only, reportLine as reportAt, numbers, targetsLine as targetsAt, next, ended, jobOf}
+use Rattle.meaning.specs.Job.{Asked, Job, asks, malformed, mostBytes, only, reportAt, numbers, targetsAt, next, ended, jobOf}
 use Rattle.laws.proofs.Text.Jobs.{no-job, cond-job, next-job}
 use Rattle.laws.proofs.Text.Lines.{Left, Taken, left-start, left-is, left-on, left-room, taken-on, no-line, cond-line, read-line, front-line, stands-taken, stands-back, stands-not, number-taken, number-back, number-not, AllFit, Exact, good-is, exact-as, number-exact, report-exact}
 use Rattle.tender.specs.Grammar.{Signed32, AllSigned32, bitsLine, inputLine, reportLine, commas, targetsLine, AsksFor, Kind, kinds, BadAt, MalformedAt}

@@ -45,7 +45,7 @@ use Rattle.laws.proofs.Widths.Ranking.{ranking-ordered}
 use Rattle.tender.specs.Condition1.{refusedLine}
 use Rattle.tender.specs.Grammar.{bitsLine, inputLine, reportLine}
 use Rattle.tender.specs.Listing.{headLines, rowLine, outLine, rowLines, outLines, listingFor, worthOf, Decimal}
-use Rattle.tender.specs.Words.{valueOf, WidestFirst, Written}
+use Rattle.tender.specs.Words.{valueAt, WidestFirst, Written}
 use Rattle.tender.proofs.Condition2.{in-order-by}
 use Rattle.tender.proofs.Condition3.{sum-is}
 
@@ -157,13 +157,13 @@ module _ (s : List ℕ) where
 pub rows-once : (byWidth : Bool) (xs : List Row) → List·Permᴰ (meant.rowOrder byWidth (values xs)) (upFrom 1 (length xs))
 rows-once byWidth xs = subst (λ n. List·Permᴰ (meant.rowOrder byWidth (values xs)) (upFrom 1 n)) (length-values xs) (order-permutes byWidth (values xs))
 
-pub rows-by-width : (w : ℕ) (xs : List Row) → WidestFirst (λ k. rowWidth w (valueOf xs k)) (meant.rowOrder true (values xs))
+pub rows-by-width : (w : ℕ) (xs : List Row) → WidestFirst (λ k. rowWidth w (valueAt xs k)) (meant.rowOrder true (values xs))
 rows-by-width w xs =
     in-order-by _ _ (meant.rowOrder true (values xs))
     (λ k i. same k (up-in 1 (length xs) k (perm-in (rows-once true xs) k i)))
     (subst (InOrder (λ k. getD (map (rowWidth w) (values xs)) (k - 1) 0)) (ranking-any w (values xs)) (ranking-ordered w (values xs)))
   where
-    same : (k : ℕ) → (1 ≤ k) × (k < 1 + length xs) → getD (map (rowWidth w) (values xs)) (k - 1) 0 ≡ rowWidth w (valueOf xs k)
+    same : (k : ℕ) → (1 ≤ k) × (k < 1 + length xs) → getD (map (rowWidth w) (values xs)) (k - 1) 0 ≡ rowWidth w (valueAt xs k)
     same zero h = absurd (omega (arith, h .0))
     same (suc k) h =
         ap (λ i. getD (map (rowWidth w) (values xs)) i 0) (let e : suc k - 1 ≡ k = omega arith in e)
@@ -188,19 +188,19 @@ unfolding apart
 served-back vals t o h = ap (λ (v : ℕ). signOf t *ℤ pos (2 ^ shiftOf t * v)) (served-index vals t o h .at) ∙ sym (apart-whole t)
 
 pub gives-target : (b : ℕ) (ts : List ℤ) (n : ℕ) (w : List ℕ) → Checks b ts n w Accepted → (t : ℤ) → List·Memᴰ t ts
-    → signOf t *ℤ pos (2 ^ shiftOf t * valueOf (rows n w) (outputIndex (values (rows n w)) (oddOf t))) ≡ t
+    → signOf t *ℤ pos (2 ^ shiftOf t * valueAt (rows n w) (outputIndex (values (rows n w)) (oddOf t))) ≡ t
 gives-target b ts n w e t i = go t (good-of b ts n w (sym e) .serves t i)
   where
-    go : (t : ℤ) → T (served? (values (rows n w)) t) → signOf t *ℤ pos (2 ^ shiftOf t * valueOf (rows n w) (outputIndex (values (rows n w)) (oddOf t))) ≡ t
-    go (pos zero) h = zero-*ℤ (pos (2 ^ shiftOf (pos 0) * valueOf (rows n w) (outputIndex (values (rows n w)) (oddOf (pos 0)))))
+    go : (t : ℤ) → T (served? (values (rows n w)) t) → signOf t *ℤ pos (2 ^ shiftOf t * valueAt (rows n w) (outputIndex (values (rows n w)) (oddOf t))) ≡ t
+    go (pos zero) h = zero-*ℤ (pos (2 ^ shiftOf (pos 0) * valueAt (rows n w) (outputIndex (values (rows n w)) (oddOf (pos 0)))))
     go (pos (suc m)) h = served-back (values (rows n w)) (pos (suc m)) (zeros-left (suc m) (omega arith)) h
     go (negsuc m) h = served-back (values (rows n w)) (negsuc m) (zeros-left (suc m) (omega arith)) h
 
-pub lowest-index : (xs : List Row) (t : ℤ) (i : ℕ) → i < outputIndex (values xs) (oddOf t) → ¬ (valueOf xs i ≡ oddOf t)
+pub lowest-index : (xs : List Row) (t : ℤ) (i : ℕ) → i < outputIndex (values xs) (oddOf t) → ¬ (valueAt xs i ≡ oddOf t)
 unfolding outputIndex
 lowest-index xs t i h e = go (leb (oddOf t) 1) refl i h e
   where
-    go : (b : Bool) → leb (oddOf t) 1 ≡ b → (i : ℕ) → i < cond b 0 (indexFrom 1 (values xs) (oddOf t)) → ¬ (valueOf xs i ≡ oddOf t)
+    go : (b : Bool) → leb (oddOf t) 1 ≡ b → (i : ℕ) → i < cond b 0 (indexFrom 1 (values xs) (oddOf t)) → ¬ (valueAt xs i ≡ oddOf t)
     go true f i h e = omega arith
     go false f zero h e = omega (arith, leb-false (oddOf t) 1 f)
     go false f (suc i) h e = index-lowest 1 (values xs) (oddOf t) i (omega arith) e

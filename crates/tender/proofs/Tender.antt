@@ -1,6 +1,5 @@
 -- All that the buyer is promised holds. Assumes nothing.
 use mathlib.Core.Path.{refl}
-use Rattle.laws.proofs.Refusals.Stages.{one-answer, one-done}
 use Rattle.tender.specs.Condition1.{Condition1}
 use Rattle.tender.specs.Listing.{Listing}
 use Rattle.tender.specs.Tender.{Tender}
@@ -31,8 +30,6 @@ condition1 =
       job = jobs.refused;
       negative-out = λ n. (refl, refl);
       parts = parts;
-      one-answer = one-answer;
-      one-done = one-done;
     }
 
 listing : Listing

@@ -15,15 +15,15 @@ use Rattle.laws.proofs.Whole.Integers.{mul-assocℤ}
 use Rattle.laws.proofs.Operation.Result.{exact-of}
 use Rattle.laws.proofs.Graph.Rows.{length-values, ready-append, sound-split}
 use Rattle.laws.proofs.Products.{times, product-at, turned-is, one-times, products-are}
-use Rattle.tender.specs.Words.{valueOf, joined, turned, Worked}
+use Rattle.tender.specs.Words.{valueAt, joined, turned, Worked}
 
 -- an index below a row has its value among the rows before
-kept : (before more : List Row) (i : ℕ) → i ≤ length before → valueOf (before ++ more) i ≡ valueOf before i
+kept : (before more : List Row) (i : ℕ) → i ≤ length before → valueAt (before ++ more) i ≡ valueAt before i
 kept before more i h =
     ap (λ l. getD l i 0) (ready-append before more) ∙ List·getD-append (ready before) (values more) 0 i (omega (arith, length-values before))
 
 -- the row's own index
-own : (before behind : List Row) (y : Row) → valueOf (before ++ (y ∷ behind)) (suc (length before)) ≡ y .value
+own : (before behind : List Row) (y : Row) → valueAt (before ++ (y ∷ behind)) (suc (length before)) ≡ y .value
 own [] behind y = refl
 own (x ∷ before) behind y = own before behind y
 
@@ -41,7 +41,7 @@ module _ (b : ℕ) (xs : List Row) (x : ℤ) (g : Sound (limit b) [] xs) where
   ps = products xs x
 
   -- the product of an index is its value times x
-  pub product-of : (i : ℕ) → getD ps i (pos 0) ≡ times x (valueOf xs i)
+  pub product-of : (i : ℕ) → getD ps i (pos 0) ≡ times x (valueAt xs i)
   product-of i = ap (λ l. getD l i (pos 0)) (products-are (limit b) xs x g) ∙ product-at x (ready xs) i
 
   module _ (before behind : List Row) (y : Row) (e : xs ≡ before ++ (y ∷ behind)) where
@@ -49,18 +49,18 @@ module _ (b : ℕ) (xs : List Row) (x : ℤ) (g : Sound (limit b) [] xs) where
     unfolding Sound
     fits = sound-split (limit b) [] before (y ∷ behind) (subst (Sound (limit b) []) e g) .1 .0
 
-    operand : (i : ℕ) → i ≤ length before → getD ps i (pos 0) ≡ times x (valueOf before i)
-    operand i h = product-of i ∙ ap (times x) (ap (λ l. valueOf l i) e ∙ kept before (y ∷ behind) i h)
+    operand : (i : ℕ) → i ≤ length before → getD ps i (pos 0) ≡ times x (valueAt before i)
+    operand i h = product-of i ∙ ap (times x) (ap (λ l. valueAt l i) e ∙ kept before (y ∷ behind) i h)
 
     pub row-value : getD ps (suc (length before)) (pos 0) ≡ pos (y .value) *ℤ x
-    row-value = product-of (suc (length before)) ∙ ap (times x) (ap (λ l. valueOf l (suc (length before))) e ∙ own before behind y)
+    row-value = product-of (suc (length before)) ∙ ap (times x) (ap (λ l. valueAt l (suc (length before))) e ∙ own before behind y)
 
     row-worked :
         pos (2 ^ y .r) *ℤ getD ps (suc (length before)) (pos 0)
-        ≡ turned (valueOf before (y .u)) (valueOf before (y .v)) (y .l1) (y .l2) (y .s) (joined (getD ps (y .u) (pos 0)) (getD ps (y .v) (pos 0)) (y .l1) (y .l2) (y .s))
+        ≡ turned (valueAt before (y .u)) (valueAt before (y .v)) (y .l1) (y .l2) (y .s) (joined (getD ps (y .u) (pos 0)) (getD ps (y .v) (pos 0)) (y .l1) (y .l2) (y .s))
     row-worked =
-        let u = valueOf before (y .u) in
-        let v = valueOf before (y .v) in
+        let u = valueAt before (y .u) in
+        let v = valueAt before (y .v) in
         ap (λ z. pos (2 ^ y .r) *ℤ z) row-value
         ∙ sym (mul-assocℤ (pos (2 ^ y .r)) (pos (y .value)) x)
         ∙ ap (λ z. z *ℤ x) (*ℤ-comm (pos (2 ^ y .r)) (pos (y .value)))

@@ -15,21 +15,25 @@ use Rattle.meaning.specs.declared.Refusal.{Refusal}
 use Rattle.meaning.specs.Constants.{signOf, shiftOf, oddOf}
 use Rattle.meaning.specs.Text.{bytes, textOf}
 use Rattle.meaning.specs.Job.{natural}
-use Rattle.meaning.specs.Refusals.{number, placeOf, Done}
+use Rattle.meaning.specs.Refusals.{number, placeOf}
 use Rattle.meaning.specs.Calls.{Admits, Checks, ChecksWidth, Distances, TakesApart, WritesForm, Generates, Multiplies, Measures, Ranks, Prints}
 use Rattle.tender.specs.Words.{TakenApart, Written}
-use Rattle.tender.specs.Table.{Line, FirstOf, line4, admitTable, checkTable, widthTable, generateTable, distanceTable, JobRefused}
+use Rattle.tender.specs.Table.{Situation, FirstOf, line4, admitTable, checkTable, widthTable, generateTable, distanceTable, JobRefused}
 
 -- r is a refusal with number N and place P
 abbrev pub IsRefusal : {R : Type 0} → (Refusal → R) → R → ℕ → ℕ → Type 0
 IsRefusal refused r N P = (why : Refusal) × (r ≡ refused why) × (number why ≡ N) × (placeOf why ≡ P)
 
--- a call refuses with number N and place P exactly if they are those of the first line of its table whose situation holds
-abbrev pub Refuses : {R : Type 0} → (Refusal → R) → (R → Type 0) → List Line → Type 0
-Refuses {R} refused Call table = (r : R) → Call r → (N P : ℕ) → IsRefusal refused r N P ↔ FirstOf table N P
+-- a call has one answer. It is a refusal with number N and place P exactly if they are those of the first line of its table whose situation holds
+pub record Refuses {R : Type 0} (refused : Refusal → R) (Call : R → Type 0) (table : List Situation) : Type 0 where
+  pub answers : (r : R) × Call r
+  pub one-answer : (r q : R) → Call r → Call q → r ≡ q
+  pub exactly : (r : R) → Call r → (N P : ℕ) → IsRefusal refused r N P ↔ FirstOf table N P
 
 -- the same of a call with a lent slice, whose length is the room; and on refusal the slice is as it was
-pub record RefusesLent {R A : Type 0} (refused : Refusal → R) (Call : R → List A → List A → Type 0) (table : ℕ → List Line) : Type 0 where
+pub record RefusesLent {R A : Type 0} (refused : Refusal → R) (Call : R → List A → List A → Type 0) (table : ℕ → List Situation) : Type 0 where
+  pub answers : (before : List A) → (r : R) × (after : List A) × Call r before after
+  pub one-answer : (r q : R) (before after later : List A) → Call r before after → Call q before later → (r ≡ q) × (after ≡ later)
   pub exactly : (r : R) (before after : List A) → Call r before after → (N P : ℕ) → IsRefusal refused r N P ↔ FirstOf (table (length before)) N P
   pub quiet : (why : Refusal) (before after : List A) → Call (refused why) before after → after ≡ before
 
@@ -61,7 +65,3 @@ pub record Condition1 : Type 1 where
   pub negative-out : (n : ℕ) → (natural (pos n) ≡ n) × (natural (negsuc n) ≡ 0)
   -- the odd part that the table speaks of
   pub parts : (t : ℤ) → TakenApart t (signOf t) (shiftOf t) (oddOf t)
-  -- a contract that says what an answer equals, and what a lent slice holds, allows one answer and one contents
-  pub one-answer : {A : Type 0} (d x y : A) → x ≡ d → y ≡ d → x ≡ y
-  pub one-done : {R A : Type 0} (a : R) (w before : List A) (r r′ : R) (now now′ : List A) → Done a w r before now → Done a w r′ before now′
-      → (r ≡ r′) × (now ≡ now′)

@@ -9,9 +9,8 @@ use Rattle.meaning.specs.declared.Operated.the-variants.{Made}
 use Rattle.meaning.specs.declared.Printed.the-variants.{Bytes}
 use Rattle.meaning.specs.declared.Refusal.the-variants as no
 use Rattle.meaning.specs.declared.Row.{Row}
-use Rattle.meaning.specs.Limits.{limit}
 use Rattle.meaning.specs.Constants.{apart}
-use Rattle.meaning.specs.Operation.{whole, Valid, operated}
+use Rattle.meaning.specs.Operation.{whole, Valid, operatedUnder}
 use Rattle.meaning.specs.Generator.{generated}
 use Rattle.meaning.specs.Products.{products, targetProducts}
 use Rattle.meaning.specs.Widths.{rowWidth}
@@ -55,7 +54,7 @@ pub record Examples : Type 0 where
   pub p4-zero : distanceTold 8 (1 ∷ []) 1 ≡ Zero
   pub p5 : distanceTold 8 (1 ∷ 5 ∷ []) 45 ≡ One
   -- P6: u = 5, v = 1, no left shifts, s = 0: n = 6, r = 1, value 3; with r = 0, as row 2 after a row of 5, it is refusal 6 by check whatever its value
-  pub p6 : operated (limit 8) 5 1 0 0 0 ≡ Made (pos 6) 1 3
+  pub p6 : operatedUnder 8 5 1 0 0 0 ≡ Made (pos 6) 1 3
   pub p6-refused : (c : ℕ) → checked 8 (pos 5 ∷ []) 2 (0 ∷ 0 ∷ 0 ∷ 2 ∷ 0 ∷ 0 ∷ 5 ∷ 1 ∷ 0 ∷ 0 ∷ 0 ∷ 0 ∷ 0 ∷ c ∷ []) ≡ Refused (no.Row 2)
   pub p6-number : number (no.Row 2) ≡ 6
   -- P7: u = v, no left shifts, s = 1: n = 0, never valid, under any limit

@@ -18,7 +18,7 @@ use Rattle.meaning.specs.Text.{bytes, textOf}
 use Rattle.meaning.specs.Job.{Asked, natural}
 use Rattle.meaning.specs.Listing.{rowOrder}
 use Rattle.meaning.specs.Calls.{Checks, Measures, Prints}
-use Rattle.tender.specs.Words.{rowIn, valuesOf, valueOf, WidestFirst, Written}
+use Rattle.tender.specs.Words.{rowIn, valuesOf, valueAt, WidestFirst, Written}
 use Rattle.tender.specs.Grammar.{bitsLine, inputLine, reportLine, AsksFor}
 use Rattle.tender.specs.Table.{JobRefused}
 use Rattle.tender.specs.Condition3.{digitSum}
@@ -92,15 +92,15 @@ pub record Listing : Type 0 where
       → ((N P : ℕ) → ¬ (JobRefused s N P)) → (k ≡ length (listingFor j)) × Written (listingFor j) before after
   -- each row has one line: widest first, equal widths by lower row; or by row number
   pub rows-once : (byWidth : Bool) (xs : List Row) → List·Permᴰ (rowOrder byWidth (valuesOf xs)) (upFrom 1 (length xs))
-  pub rows-by-width : (w : ℕ) (xs : List Row) → WidestFirst (λ k. rowWidth w (valueOf xs k)) (rowOrder true (valuesOf xs))
+  pub rows-by-width : (w : ℕ) (xs : List Row) → WidestFirst (λ k. rowWidth w (valueAt xs k)) (rowOrder true (valuesOf xs))
   pub rows-by-number : (xs : List Row) → rowOrder false (valuesOf xs) ≡ upFrom 1 (length xs)
   -- the widths are those that `measure` writes
   pub widths : (b : ℕ) (ts : List ℤ) (n : ℕ) (w : List ℕ) (input : ℕ) (before after : List ℕ) → Measures b ts n w input Accepted before after
       → Written (map (rowWidth input) (valuesOf (rows n w)) ++ map (outputWidth input) ts) before after
   -- an out line's sign, shift and index give back the target, by the lowest index that does; for a zero target it is 0
   pub gives-target : (b : ℕ) (ts : List ℤ) (n : ℕ) (w : List ℕ) → Checks b ts n w Accepted → (t : ℤ) → List·Memᴰ t ts
-      → signOf t *ℤ pos (2 ^ shiftOf t * valueOf (rows n w) (outputIndex (valuesOf (rows n w)) (oddOf t))) ≡ t
-  pub lowest-index : (xs : List Row) (t : ℤ) (i : ℕ) → i < outputIndex (valuesOf xs) (oddOf t) → ¬ (valueOf xs i ≡ oddOf t)
+      → signOf t *ℤ pos (2 ^ shiftOf t * valueAt (rows n w) (outputIndex (valuesOf (rows n w)) (oddOf t))) ≡ t
+  pub lowest-index : (xs : List Row) (t : ℤ) (i : ℕ) → i < outputIndex (valuesOf xs) (oddOf t) → ¬ (valueAt xs i ≡ oddOf t)
   pub zero-index : (xs : List Row) → outputIndex (valuesOf xs) (oddOf (pos 0)) ≡ 0
   -- numbers are in decimal
   pub numbers : (n : ℕ) → n < 2 ^ 64 → Decimal n (textOf (pos n))

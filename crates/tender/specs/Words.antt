@@ -50,14 +50,14 @@ abbrev pub valuesOf : List Row → List ℕ
 valuesOf xs = map (λ x. x .value) xs
 
 -- the value of an index: the input's, which has index 0, is 1
-abbrev pub valueOf : List Row → ℕ → ℕ
-valueOf xs index = getD (1 ∷ valuesOf xs) index 0
+abbrev pub valueAt : List Row → ℕ → ℕ
+valueAt xs index = getD (1 ∷ valuesOf xs) index 0
 
 -- a row, after the rows before it, is an A-operation on the values of two indices below its own
 pub record ValidRow (b : ℕ) (before : List Row) (x : Row) : Type 0 where
   pub first : x .u ≤ length before
   pub second : x .v ≤ length before
-  pub operation : AOperation b (valueOf before (x .u)) (valueOf before (x .v)) (x .l1) (x .l2) (x .s) (x .r) (x .value)
+  pub operation : AOperation b (valueAt before (x .u)) (valueAt before (x .v)) (x .l1) (x .l2) (x .s) (x .r) (x .value)
 
 abbrev pub EveryRowValid : ℕ → List Row → Type 0
 EveryRowValid b xs = (before behind : List Row) (x : Row) → xs ≡ before ++ (x ∷ behind) → ValidRow b before x
@@ -87,7 +87,7 @@ pub record Worked (xs : List Row) (x : ℤ) (ps : List ℤ) : Type 0 where
   pub input : getD ps 0 (pos 0) ≡ x
   pub row : (before behind : List Row) (y : Row) → xs ≡ before ++ (y ∷ behind)
       → pos (2 ^ y .r) *ℤ getD ps (suc (length before)) (pos 0)
-      ≡ turned (valueOf before (y .u)) (valueOf before (y .v)) (y .l1) (y .l2) (y .s) (joined (getD ps (y .u) (pos 0)) (getD ps (y .v) (pos 0)) (y .l1) (y .l2) (y .s))
+      ≡ turned (valueAt before (y .u)) (valueAt before (y .v)) (y .l1) (y .l2) (y .s) (joined (getD ps (y .u) (pos 0)) (getD ps (y .v) (pos 0)) (y .l1) (y .l2) (y .s))
   pub value : (before behind : List Row) (y : Row) → xs ≡ before ++ (y ∷ behind) → getD ps (suc (length before)) (pos 0) ≡ pos (y .value) *ℤ x
 
 -- ---- bits, two's complement
@@ -99,6 +99,7 @@ FitsBits k (negsuc n) = n < 2 ^ (k - 1)
 
 -- k is the fewest bits for a result: they hold it for every input x of w bits, and with fewer some x of w bits does not fit
 pub record FewestBits (w : ℕ) (result : ℤ → ℤ) (k : ℕ) : Type 0 where
+  pub some : 1 ≤ k
   pub holds : (x : ℤ) → FitsBits w x → FitsBits k (result x)
   pub least : (j : ℕ) → 1 ≤ j → j < k → (x : ℤ) × FitsBits w x × ¬ (FitsBits j (result x))
 
@@ -110,7 +111,7 @@ WidestFirst width [] = Unit {0}
 WidestFirst width (i ∷ is) =
     ((j : ℕ) → List·Memᴰ j is → (width j < width i) ⊎ ((width i ≡ width j) × (i < j))) × WidestFirst width is
 
--- so that each of its members is there once
+-- each is below all that follow it, so that it is there once
 abbrev pub Ascends : List ℕ → Type 0
 Ascends [] = Unit {0}
 Ascends (c ∷ cs) = ((d : ℕ) → List·Memᴰ d cs → c < d) × Ascends cs

@@ -10,7 +10,7 @@ use mir.ValLaws.{toZ-ofZ}
 use borrow.Author.Needs.{needs}
 use borrow.Author.Tests.{le-leb, lt-leb}
 use Rattle.meaning.specs.Forms.{good, lineAt, bitsForm, inputForm}
-use Rattle.meaning.specs.Job.{mostBytes, jobOf, only, reportLine}
+use Rattle.meaning.specs.Job.{mostBytes, jobOf, only, reportAt}
 use Rattle.job.specs.Held.{parsedOf}
 use Rattle.job.proofs.Lines.{read-good, read-bad, order-good, order-bad, targets-none, targets-more, targets-all}
 use Rattle.job.proofs.parse.Statement.{statement}
@@ -43,7 +43,7 @@ line2 : (c : tie.After-known-told2)
 line2 c = read-good _ _ _ (sym (c .before .before .before .number-line2 .ensures) ∙ c .before .input .given .1)
 
 line3 : (c : tie.After-known-told3)
-    → reportLine (source (start (first (second c)))) (second c .before .input .given .0 .1 .0)
+    → reportAt (source (start (first (second c)))) (second c .before .input .given .0 .1 .0)
     ≡ good (c .before .by-width .given .0 .0) (c .before .by-width .given .0 .1 .0)
 line3 c = order-good _ _ _ (sym (c .before .before .before .report-line .ensures) ∙ c .before .by-width .given .1)
 

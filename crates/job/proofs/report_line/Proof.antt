@@ -4,7 +4,7 @@ use mathlib.Core.Bool.{false}
 use native.Mathlib.Omega.{arith}
 use borrow.Author.Needs.{needs}
 use Rattle.meaning.specs.Text.{bytes, stands}
-use Rattle.meaning.specs.Job.{reportLine}
+use Rattle.meaning.specs.Job.{reportAt}
 use Rattle.laws.proofs.Text.Bytes.{stands-within}
 use Rattle.job.specs.Held.{orderOf}
 use Rattle.job.proofs.report_line.Statement.{statement}
@@ -26,7 +26,7 @@ add-t8 : tie.Need-add-t8
 add-t8 c = omega (arith, stands-within (bytes "report=width\n") _ _ (sym (c .before .stands .ensures) ∙ c .if1 .taken))
 
 returns : tie.Need-returns
-unfolding reportLine orderOf
+unfolding reportAt orderOf
 returns c = rw (sym (c .before .stands .ensures) ∙ c .if1 .taken) refl
 
 slice-aggregate-stands-2 : tie.Need-slice-aggregate-stands-2
@@ -39,11 +39,11 @@ add-t12 : tie.Need-add-t12
 add-t12 c = omega (arith, stands-within (bytes "report=row\n") _ _ (sym (c .before .stands2 .ensures) ∙ c .if2 .taken))
 
 returns-2 : tie.Need-returns-2
-unfolding reportLine orderOf
+unfolding reportAt orderOf
 returns-2 c = rw (not-width (c .before .before .before), sym (c .before .stands2 .ensures) ∙ c .if2 .taken) refl
 
 returns-3 : tie.Need-returns-3
-unfolding reportLine orderOf
+unfolding reportAt orderOf
 returns-3 c = rw (not-width (c .before .before .before), sym (c .before .stands2 .ensures) ∙ c .if2 .left) refl
 
 pub report-line-spec : {M : Type 1} → statement M

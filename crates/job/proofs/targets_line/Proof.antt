@@ -5,7 +5,7 @@ use native.Mathlib.Omega.{arith}
 use borrow.Author.Needs.{needs}
 use borrow.Author.Tests.{not-true, not-false}
 use Rattle.meaning.specs.Text.{bytes, stands}
-use Rattle.meaning.specs.Job.{targetsLine}
+use Rattle.meaning.specs.Job.{targetsAt}
 use Rattle.laws.proofs.Text.Bytes.{stands-within}
 use Rattle.job.specs.Held.{targetsOf}
 use Rattle.job.proofs.targets_line.Statement.{statement}
@@ -27,7 +27,7 @@ none-requires : tie.Need-none-requires
 none-requires c κs = search needs
 
 returns : tie.Need-returns
-unfolding targetsLine
+unfolding targetsAt
 returns c = c .none .ensures ∙ rw (sym (c .before .before .stands .ensures) ∙ not-true _ (c .before .if1 .taken)) refl
 
 add-is : tie.Need-add-is
@@ -40,7 +40,7 @@ add-t10 : tie.Need-add-t10
 add-t10 c = omega (arith, stands-within (bytes "\n") _ _ (sym (c .before .is .ensures) ∙ c .if2 .taken))
 
 returns-2 : tie.Need-returns-2
-unfolding targetsLine targetsOf
+unfolding targetsAt targetsOf
 returns-2 c = rw (named (c .before .before), sym (c .before .is .ensures) ∙ c .if2 .taken) refl
 
 add-numbers : tie.Need-add-numbers
@@ -50,7 +50,7 @@ numbers-requires : tie.Need-numbers-requires
 numbers-requires c κs = search needs
 
 returns-3 : tie.Need-returns-3
-unfolding targetsLine
+unfolding targetsAt
 returns-3 c = c .numbers .ensures ∙ rw (named (c .before .before .before), sym (c .before .before .is .ensures) ∙ c .before .if2 .left) refl
 
 pub targets-line-spec : {M : Type 1} → statement M

@@ -15,7 +15,7 @@ use Rattle.meaning.specs.declared.Head.{Head}
 use Rattle.meaning.specs.declared.Read.the-variants.{Number}
 use Rattle.meaning.specs.Text.{bytes, stands, numberAt}
 use Rattle.meaning.specs.Forms.{Line, good, bad, front, lineAt, bitsForm, inputForm}
-use Rattle.meaning.specs.Job.{mostBytes, mostJobTargets, Asked, Job, asks, malformed, next, only, reportLine, numbers, targetsLine, jobOf}
+use Rattle.meaning.specs.Job.{mostBytes, mostJobTargets, Asked, Job, asks, malformed, next, only, reportAt, numbers, targetsAt, jobOf}
 use Rattle.laws.proofs.Text.Numerals.{number-read}
 use Rattle.laws.proofs.Text.Bytes.{stands-within}
 use Rattle.laws.proofs.Text.Lines.{no-line, cond-line, read-line, front-line}
@@ -65,8 +65,8 @@ run-of (suc most) s at zs q e =
     let (z, p, r, g) = read-line (numberAt s at) _ e in
     run-by s at z p (numbers most s (p + 1)) (stands (bytes ",") s p) zs q r (λ ys. run-of most s (p + 1) ys q) g
 
-run-line : (s : List ℕ) (at : ℕ) (zs : List ℤ) (q : ℕ) → targetsLine s at ≡ good zs q → Run s (at + 8) zs q
-unfolding targetsLine
+run-line : (s : List ℕ) (at : ℕ) (zs : List ℤ) (q : ℕ) → targetsAt s at ≡ good zs q → Run s (at + 8) zs q
+unfolding targetsAt
 run-line s at zs q e = let (t, f) = cond-line (stands (bytes "targets=") s at) _ e in go (stands (bytes "\n") s (at + 8)) refl f
   where
     go : (b : Bool) → stands (bytes "\n") s (at + 8) ≡ b → cond b (good [] (at + 9)) (numbers (length s) s (at + 8)) ≡ good zs q → Run s (at + 8) zs q
@@ -83,7 +83,7 @@ record Fits (j : Asked) : Type 0 where
   few : length (j .targets) ≤ mostJobTargets
   targets : (k : ℕ) → SFits w32 (getD (j .targets) k (pos 0))
 
-fits-by : (s : List ℕ) (h : Head) (ts : List ℤ) (at to : ℕ) (j : Asked) → length s ≤ mostBytes → targetsLine s at ≡ good ts to
+fits-by : (s : List ℕ) (h : Head) (ts : List ℤ) (at to : ℕ) (j : Asked) → length s ≤ mostBytes → targetsAt s at ≡ good ts to
     → asks (record { head = h; targets = ts }) ≡ asks j → Fits j
 fits-by s h ts at to j l m e =
     let n = run-line s at ts to m in
@@ -98,8 +98,8 @@ fits-of s j e =
     let (h, e0) = cond-job (leb (length s) mostBytes) _ 0 e in
     let (b, p1, l1, e1) = next-job (only (lineAt bitsForm s 0)) 1 _ e0 in
     let (w, p2, l2, e2) = next-job (only (lineAt inputForm s p1)) 2 _ e1 in
-    let (r, p3, l3, e3) = next-job (reportLine s p2) 3 _ e2 in
-    let (ts, p4, l4, e4) = next-job (targetsLine s p3) 4 _ e3 in
+    let (r, p3, l3, e3) = next-job (reportAt s p2) 3 _ e2 in
+    let (ts, p4, l4, e4) = next-job (targetsAt s p3) 4 _ e3 in
     let (f, e5) = cond-job (eqb p4 (length s)) (asks (record { head = record { bits = b; input = w; «by_width» = r }; targets = ts })) 5 e4 in
     fits-by s (record { bits = b; input = w; «by_width» = r }) ts p3 p4 j (leb-true (length s) mostBytes h) l4 e5
 
@@ -131,8 +131,8 @@ up-of s =
     up-cond (leb (length s) mostBytes) _ 0 5
     (up-next (only (lineAt bitsForm s 0)) 1 _ 5 (omega arith) λ b p1.
     up-next (only (lineAt inputForm s p1)) 2 _ 5 (omega arith) λ w p2.
-    up-next (reportLine s p2) 3 _ 5 (omega arith) λ r p3.
-    up-next (targetsLine s p3) 4 _ 5 (omega arith) λ ts p4.
+    up-next (reportAt s p2) 3 _ 5 (omega arith) λ r p3.
+    up-next (targetsAt s p3) 4 _ 5 (omega arith) λ ts p4.
     up-cond (eqb p4 (length s)) (asks (record { head = record { bits = b; input = w; «by_width» = r }; targets = ts })) 5 5 tt (omega arith))
     (omega arith)
 

@@ -18,7 +18,7 @@ use Rattle.meaning.specs.declared.Read.the-variants.{Number, Bad}
 use Rattle.meaning.specs.Basics.{every}
 use Rattle.meaning.specs.Text.{bytes, digit?, span, stands, numberAt, textOf}
 use Rattle.meaning.specs.Forms.{lineOf, Line, good, bad, onRead, front, readNumber, readByte, lineAt, reportText}
-use Rattle.meaning.specs.Job.{only, reportLine}
+use Rattle.meaning.specs.Job.{only, reportAt}
 use Rattle.laws.proofs.Lists.Tests.{both-of, true-of}
 use Rattle.laws.proofs.Text.Numerals.{rest-cons, unsigned-none, number-plain, number-read}
 use Rattle.laws.proofs.Text.ReadBack.{read-back, number-text}
@@ -313,8 +313,8 @@ module _ (t : List ℕ) (solid : T (every solid? t)) (one : blanks (t ++ bytes "
           ∙ ap (λ (x : List ℕ). good z (at + length x)) (form-text z)
 
 -- the report line
-report-taken : (s : List ℕ) (at : ℕ) (rest : List ℕ) (b : Bool) (p : ℕ) → Left s at rest → reportLine s at ≡ good b p → Unit {0} × Taken s rest (reportText b) p
-unfolding reportLine
+report-taken : (s : List ℕ) (at : ℕ) (rest : List ℕ) (b : Bool) (p : ℕ) → Left s at rest → reportAt s at ≡ good b p → Unit {0} × Taken s rest (reportText b) p
+unfolding reportAt
 report-taken s at rest b p l e = go (stands (reportText true) s at) refl e
   where
     go : (c : Bool) → stands (reportText true) s at ≡ c
@@ -324,13 +324,13 @@ report-taken s at rest b p l e = go (stands (reportText true) s at) refl e
         let (i, g) = cond-line (stands (reportText false) s at) _ f in
         good-is (λ x k. Unit {0} × Taken s rest (reportText x) k) g (tt, stands-taken (reportText false) l i)
 
-report-back : (s : List ℕ) (at : ℕ) (rest : List ℕ) (b : Bool) → Unit {0} → Left s at (reportText b ++ rest) → reportLine s at ≡ good b (at + length (reportText b))
-unfolding reportLine
+report-back : (s : List ℕ) (at : ℕ) (rest : List ℕ) (b : Bool) → Unit {0} → Left s at (reportText b ++ rest) → reportAt s at ≡ good b (at + length (reportText b))
+unfolding reportAt
 report-back s at rest true w l = rw (stands-back (reportText true) rest l) refl
 report-back s at rest false w l = rw (stands-not (reportText true) l other, stands-back (reportText false) rest l) refl
   where
     other : (more : List ℕ) → ¬ (reportText false ++ rest ≡ reportText true ++ more)
     other more e = let h : _≡_ {A = ℕ} 114 119 = ap (λ (x : List ℕ). getD x 7 0) e in omega arith
 
-pub report-exact : (s : List ℕ) → Exact (λ b. Unit {0}) reportText s (reportLine s)
+pub report-exact : (s : List ℕ) → Exact (λ b. Unit {0}) reportText s (reportAt s)
 report-exact s = record { taken = report-taken s; back = report-back s }

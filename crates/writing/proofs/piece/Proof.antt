@@ -1,8 +1,7 @@
 -- `piece` meets its contract: a number, or the byte. Assumes nothing.
-use mathlib.Core.Path.{_≡_, ap, sym, _∙_}
+use mathlib.Core.Path.{_≡_, ap, sym}
 use mathlib.Core.Bool.{Bool, cond}
-use mathlib.Core.List.{List, [], _∷_}
-use Prim.Native.Nat.{ℕ}
+use mathlib.Core.List.{[], _∷_}
 use native.Mathlib.Omega.{arith}
 use lib.ListN.{length, length-set}
 use mir.Syntax.{w64}

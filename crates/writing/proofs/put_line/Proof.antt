@@ -1,5 +1,5 @@
 -- `put_line` meets its contract. The loop's invariant: the line of the form's first bytes is written. What is left of the form falls. Assumes nothing.
-use mathlib.Core.Path.{_≡_, refl, ap, _∙_}
+use mathlib.Core.Path.{_≡_, refl, _∙_}
 use Prim.Native.Nat.{_-_, _≤_}
 use native.Mathlib.Omega.{arith}
 use lib.IntN.{pos}
