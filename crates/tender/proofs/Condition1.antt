@@ -33,9 +33,8 @@ use Rattle.laws.proofs.Lists.Has.{in-has, has-in}
 use Rattle.laws.proofs.Refusals.Stages.{never-both, refused-same, need-refuses, one-done, over-none}
 use Rattle.laws.proofs.Refusals.Members.{each-refuses, refuses-each}
 use Rattle.tender.specs.Words.{ValidRow}
-use Rattle.tender.specs.Table.{Situation, FirstOf, line3, line4, line5, line6, line7, line8, line9, line10values, line11, jobLines, admitTable, checkTable, widthTable, generateTable, distanceTable}
+use Rattle.tender.specs.Table.{Situation, FirstOf, line3, line4, line5, line6, line7, line8, line9, line10values, line11, jobLines, admitTable, checkTable, widthTable, generateTable, distanceTable, IsRefusal, Refuses, RefusesLent}
 use Rattle.meaning.specs.Calls.{Admits, Checks, ChecksWidth, Distances, TakesApart, WritesForm, Generates, Multiplies, Measures, Ranks, Prints}
-use Rattle.tender.specs.Condition1.{IsRefusal, Refuses, RefusesLent}
 use Rattle.tender.proofs.Rows.{row-of-test, test-of-row}
 
 -- ---- stages and their lines

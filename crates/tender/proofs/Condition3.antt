@@ -27,8 +27,8 @@ use Rattle.laws.proofs.Generator.Generated.{drawn-accepts, call-of, call-rows, 
 use Rattle.laws.proofs.Generator.Remaining.{generated-few}
 use Rattle.laws.proofs.Generator.Shortest.{fewest}
 use Rattle.laws.proofs.Distance.Distances.{distance-zero, distance-one, distance-two, distance-beyond, distance-same, distance-told, distance-refused}
-use Rattle.tender.specs.Condition3.{WantedPart, nonzeroDigits, digitSum, ByOne, ByTwo, NotRefused, Condition3}
-use Rattle.tender.specs.Words.{Ascends}
+use Rattle.tender.specs.Condition3.{Condition3}
+use Rattle.tender.specs.Words.{Ascends, WantedPart, nonzeroDigits, digitSum, ByOne, ByTwo, NotRefused}
 use Rattle.tender.proofs.Rows.{operation-of, valid-of}
 use Rattle.tender.proofs.Condition2.{front-kept}
 

@@ -17,8 +17,7 @@ use Rattle.meaning.specs.Refusals.{buffer, given, formedAs, apartTold, apartWri
 use Rattle.meaning.specs.Calls.{TakesApart, WritesForm}
 use Rattle.laws.proofs.Constants.Apart.{apart-whole, apart-proper}
 use Rattle.laws.proofs.Digits.Places.{bits-apart, opposite-nonzeros, form-back, form-sparse}
-use Rattle.tender.specs.Words.{TakenApart, Written}
-use Rattle.tender.specs.Condition3.{nonzeroDigits}
+use Rattle.tender.specs.Words.{TakenApart, Written, nonzeroDigits}
 use Rattle.tender.specs.Constants.{FormOf, Constants}
 use Rattle.tender.proofs.Condition3.{count-is}
 

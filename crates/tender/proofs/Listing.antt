@@ -42,7 +42,7 @@ use Rattle.laws.proofs.Text.ReadBack.{leading-is, value-is, digits-only}
 use Rattle.laws.proofs.Text.Room.{text-room}
 use Rattle.laws.proofs.Whole.Zeros.{zeros-left}
 use Rattle.laws.proofs.Widths.Ranking.{ranking-ordered}
-use Rattle.tender.specs.Condition1.{refusedLine}
+use Rattle.tender.specs.Table.{refusedLine}
 use Rattle.tender.specs.Grammar.{bitsLine, inputLine, reportLine}
 use Rattle.tender.specs.Listing.{headLines, rowLine, outLine, rowLines, outLines, listingFor, worthOf, Decimal}
 use Rattle.tender.specs.Words.{valueAt, WidestFirst, Written}

@@ -27,6 +27,7 @@ condition1 =
       canonic = calls.canonic;
       print = calls.print;
       text-fits = jobs.fits;
+      every-text = jobs.every-text;
       job = jobs.refused;
       negative-out = λ n. (refl, refl);
       parts = parts;
@@ -43,6 +44,9 @@ listing =
       gives-target = lines.gives-target;
       lowest-index = lines.lowest-index;
       zero-index = lines.zero-index;
+      letters = refl;
+      digits = refl;
+      signs = refl;
       numbers = lines.numbers;
       negative-numbers = lines.negative-numbers;
     }

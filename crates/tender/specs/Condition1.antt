@@ -2,7 +2,7 @@
 -- nothing is written on refusal. Assumes nothing.
 use mathlib.Core.Path.{_≡_}
 use mathlib.Core.List.{List, [], _∷_, _++_}
-use mathlib.Core.Logic.{_↔_}
+use mathlib.Core.Logic.{_⊎_}
 use Prim.Native.Nat.{ℕ, _+_, _≤_}
 use lib.IntN.{ℤ, pos, negsuc}
 use lib.ListN.{length}
@@ -11,35 +11,12 @@ use Rattle.meaning.specs.declared.Drawn.the-variants as drew
 use Rattle.meaning.specs.declared.Far.the-variants as far
 use Rattle.meaning.specs.declared.Formed.the-variants as formed
 use Rattle.meaning.specs.declared.Printed.the-variants as printed
-use Rattle.meaning.specs.declared.Refusal.{Refusal}
 use Rattle.meaning.specs.Constants.{signOf, shiftOf, oddOf}
-use Rattle.meaning.specs.Text.{bytes, textOf}
-use Rattle.meaning.specs.Job.{natural}
-use Rattle.meaning.specs.Refusals.{number, placeOf}
+use Rattle.meaning.specs.Job.{Asked, natural}
 use Rattle.meaning.specs.Calls.{Admits, Checks, ChecksWidth, Distances, TakesApart, WritesForm, Generates, Multiplies, Measures, Ranks, Prints}
+use Rattle.tender.specs.Grammar.{AsksFor}
 use Rattle.tender.specs.Words.{TakenApart, Written}
-use Rattle.tender.specs.Table.{Situation, FirstOf, line4, admitTable, checkTable, widthTable, generateTable, distanceTable, JobRefused}
-
--- r is a refusal with number N and place P
-abbrev pub IsRefusal : {R : Type 0} → (Refusal → R) → R → ℕ → ℕ → Type 0
-IsRefusal refused r N P = (why : Refusal) × (r ≡ refused why) × (number why ≡ N) × (placeOf why ≡ P)
-
--- a call has one answer. It is a refusal with number N and place P exactly if they are those of the first line of its table whose situation holds
-pub record Refuses {R : Type 0} (refused : Refusal → R) (Call : R → Type 0) (table : List Situation) : Type 0 where
-  pub answers : (r : R) × Call r
-  pub one-answer : (r q : R) → Call r → Call q → r ≡ q
-  pub exactly : (r : R) → Call r → (N P : ℕ) → IsRefusal refused r N P ↔ FirstOf table N P
-
--- the same of a call with a lent slice, whose length is the room; and on refusal the slice is as it was
-pub record RefusesLent {R A : Type 0} (refused : Refusal → R) (Call : R → List A → List A → Type 0) (table : ℕ → List Situation) : Type 0 where
-  pub answers : (before : List A) → (r : R) × (after : List A) × Call r before after
-  pub one-answer : (r q : R) (before after later : List A) → Call r before after → Call q before later → (r ≡ q) × (after ≡ later)
-  pub exactly : (r : R) (before after : List A) → Call r before after → (N P : ℕ) → IsRefusal refused r N P ↔ FirstOf (table (length before)) N P
-  pub quiet : (why : Refusal) (before after : List A) → Call (refused why) before after → after ≡ before
-
--- the only line printed for a job that is refused
-abbrev pub refusedLine : ℕ → ℕ → List ℕ
-refusedLine N P = bytes "refused=" ++ textOf (pos N) ++ bytes " place=" ++ textOf (pos P) ++ bytes "\n"
+use Rattle.tender.specs.Table.{line4, admitTable, checkTable, widthTable, generateTable, distanceTable, JobRefused, Refuses, RefusesLent, refusedLine}
 
 pub record Condition1 : Type 1 where
   pub admit : (b : ℕ) (ts : List ℤ) → Refuses Refused (Admits b ts) (admitTable b ts)
@@ -58,7 +35,10 @@ pub record Condition1 : Type 1 where
   -- a job's text is printed if there is room for every text, and none is longer
   pub print : (s : List ℕ) → RefusesLent printed.Refused (Prints s) (λ room. line4 8769 room ∷ [])
   pub text-fits : (s : List ℕ) (k : ℕ) (before after : List ℕ) → Prints s (printed.Bytes k) before after → k ≤ 8769
-  -- what is printed for a job that is refused; for any other it is the listing
+  -- every text is refused, or asks for a job that is not
+  pub every-text : (s : List ℕ)
+      → ((N : ℕ) × (P : ℕ) × JobRefused s N P) ⊎ ((j : Asked) × AsksFor s j × ((N P : ℕ) → ¬ (JobRefused s N P)))
+  -- what is printed for one that is refused; for any other it is the listing
   pub job : (s : List ℕ) (k : ℕ) (before after : List ℕ) → Prints s (printed.Bytes k) before after → (N P : ℕ) → JobRefused s N P
       → (k ≡ length (refusedLine N P)) × Written (refusedLine N P) before after
   -- a negative bit limit or input width counts as 0, which is out of range

@@ -2,59 +2,20 @@
 use mathlib.Core.Path.{_≡_}
 use mathlib.Core.List.{List, [], _∷_, List·Memᴰ}
 use mathlib.Core.Logic.{_↔_}
-use Prim.Native.Nat.{ℕ, _+_, _-_, _*_, _≤_, _<_}
-use lib.IntN.{ℤ, natAbs}
+use Prim.Native.Nat.{ℕ, _-_, _*_, _≤_}
+use lib.IntN.{ℤ}
 use lib.ListN.{length, drop}
 use Rattle.meaning.specs.declared.Answer.the-variants.{Accepted}
 use Rattle.meaning.specs.declared.Drawn.{Drawn}
 use Rattle.meaning.specs.declared.Drawn.the-variants.{Rows}
 use Rattle.meaning.specs.declared.Far.{Far}
 use Rattle.meaning.specs.declared.Far.the-variants as far
-use Rattle.meaning.specs.declared.Refusal.{Refusal}
-use Rattle.meaning.specs.Constants.{oddOf, wanted}
-use Rattle.meaning.specs.Digits.{Digit, worth, Canonic, canonic}
+use Rattle.meaning.specs.Constants.{wanted}
+use Rattle.meaning.specs.Digits.{Digit, Canonic, canonic}
 use Rattle.meaning.specs.Graph.{rows}
 use Rattle.meaning.specs.Generator.{generated}
 use Rattle.meaning.specs.Calls.{Admits, Checks, Distances, Generates}
-use Rattle.tender.specs.Words.{AOperation, Ascends}
-
--- c is one of the distinct odd parts greater than one
-pub record WantedPart (ts : List ℤ) (c : ℕ) : Type 0 where
-  pub target : ℤ
-  pub listed : List·Memᴰ target ts
-  pub part : oddOf target ≡ c
-  pub above : 1 < c
-
--- how many digits of a form are nonzero: -1 or 1
-abbrev pub nonzeroDigits : List Digit → ℕ
-nonzeroDigits [] = 0
-nonzeroDigits (d ∷ ds) = natAbs (worth d) + nonzeroDigits ds
-
--- the sum, over constants, of the nonzero digits in the canonic form less one each
-abbrev pub digitSum : List ℕ → ℕ
-digitSum [] = 0
-digitSum (c ∷ cs) = (nonzeroDigits (canonic c) - 1) + digitSum cs
-
--- one bounded operation on two of the values, perhaps the same one twice, gives c
-pub record ByOne (b : ℕ) (vals : List ℕ) (c : ℕ) : Type 0 where
-  pub u : ℕ
-  pub v : ℕ
-  pub l1 : ℕ
-  pub l2 : ℕ
-  pub s : ℕ
-  pub r : ℕ
-  pub first : List·Memᴰ u vals
-  pub second : List·Memᴰ v vals
-  pub operation : AOperation b u v l1 l2 s r c
-
--- one operation gives some s, and with s added one operation gives c
-pub record ByTwo (b : ℕ) (vals : List ℕ) (c : ℕ) : Type 0 where
-  pub s : ℕ
-  pub first : ByOne b vals s
-  pub second : ByOne b (s ∷ vals) c
-
-abbrev pub NotRefused : Far → Type 0
-NotRefused r = (why : Refusal) → ¬ (r ≡ far.Refused why)
+use Rattle.tender.specs.Words.{WantedPart, nonzeroDigits, digitSum, ByOne, ByTwo, NotRefused, Ascends}
 
 pub record Condition3 : Type 0 where
   -- every list that is not refused is answered, where there is room for 128 rows: refusal 8 never comes

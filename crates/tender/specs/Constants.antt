@@ -8,8 +8,7 @@ use Rattle.meaning.specs.declared.Formed.the-variants.{Digits}
 use Rattle.meaning.specs.Constants.{signOf, shiftOf, oddOf}
 use Rattle.meaning.specs.Digits.{canonic}
 use Rattle.meaning.specs.Calls.{TakesApart, WritesForm}
-use Rattle.tender.specs.Words.{TakenApart, Written}
-use Rattle.tender.specs.Condition3.{nonzeroDigits}
+use Rattle.tender.specs.Words.{TakenApart, Written, nonzeroDigits}
 
 abbrev pub bit : ℕ → ℕ → ℕ
 bit k word = word / 2 ^ k % 2

@@ -18,10 +18,9 @@ use Rattle.meaning.specs.Text.{bytes, textOf}
 use Rattle.meaning.specs.Job.{Asked, natural}
 use Rattle.meaning.specs.Listing.{rowOrder}
 use Rattle.meaning.specs.Calls.{Checks, Measures, Prints}
-use Rattle.tender.specs.Words.{rowIn, valuesOf, valueAt, WidestFirst, Written}
+use Rattle.tender.specs.Words.{rowIn, valuesOf, valueAt, WidestFirst, Written, digitSum}
 use Rattle.tender.specs.Grammar.{bitsLine, inputLine, reportLine, AsksFor}
 use Rattle.tender.specs.Table.{JobRefused}
-use Rattle.tender.specs.Condition3.{digitSum}
 
 -- ---- numbers in decimal
 
@@ -102,6 +101,9 @@ pub record Listing : Type 0 where
       → signOf t *ℤ pos (2 ^ shiftOf t * valueAt (rows n w) (outputIndex (valuesOf (rows n w)) (oddOf t))) ≡ t
   pub lowest-index : (xs : List Row) (t : ℤ) (i : ℕ) → i < outputIndex (valuesOf xs) (oddOf t) → ¬ (valueAt xs i ≡ oddOf t)
   pub zero-index : (xs : List Row) → outputIndex (valuesOf xs) (oddOf (pos 0)) ≡ 0
-  -- numbers are in decimal
+  -- texts are ASCII, and numbers are in decimal
+  pub letters : bytes "abcdefghijklmnopqrstuvwxyz" ≡ upFrom 97 26
+  pub digits : bytes "0123456789" ≡ upFrom 48 10
+  pub signs : bytes "\n ,-=" ≡ 10 ∷ 32 ∷ 44 ∷ 45 ∷ 61 ∷ []
   pub numbers : (n : ℕ) → n < 2 ^ 64 → Decimal n (textOf (pos n))
   pub negative-numbers : (n : ℕ) → textOf (negsuc n) ≡ 45 ∷ textOf (pos (suc n))

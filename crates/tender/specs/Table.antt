@@ -2,9 +2,9 @@
 -- Assumes nothing.
 use mathlib.Core.Path.{_≡_}
 use mathlib.Core.List.{List, [], _∷_, _++_, List·Memᴰ}
-use mathlib.Core.Logic.{_⊎_}
+use mathlib.Core.Logic.{_⊎_, _↔_}
 use Prim.Native.Nat.{ℕ, _+_, _*_, _%_, _^_, _≤_, _<_}
-use lib.IntN.{ℤ}
+use lib.IntN.{ℤ, pos}
 use lib.ListN.{length}
 use Rattle.meaning.specs.declared.Row.{Row}
 use Rattle.meaning.specs.Basics.{First}
@@ -12,6 +12,9 @@ use Rattle.meaning.specs.Constants.{oddOf}
 use Rattle.meaning.specs.Graph.{rows}
 use Rattle.meaning.specs.Generator.{generated}
 use Rattle.meaning.specs.Job.{Asked, natural}
+use Rattle.meaning.specs.declared.Refusal.{Refusal}
+use Rattle.meaning.specs.Refusals.{number, placeOf}
+use Rattle.meaning.specs.Text.{bytes, textOf}
 use Rattle.tender.specs.Words.{valuesOf, ValidRow}
 use Rattle.tender.specs.Grammar.{AsksFor, MalformedAt}
 
@@ -99,3 +102,26 @@ jobLines j =
 -- of a job's text: 12, and then the lines for what it asks for
 abbrev pub JobRefused : List ℕ → ℕ → ℕ → Type 0
 JobRefused s N P = line12 s N P ⊎ ((j : Asked) × AsksFor s j × FirstOf (jobLines j) N P)
+
+-- ---- a call and its table
+
+-- r is a refusal with number N and place P
+abbrev pub IsRefusal : {R : Type 0} → (Refusal → R) → R → ℕ → ℕ → Type 0
+IsRefusal refused r N P = (why : Refusal) × (r ≡ refused why) × (number why ≡ N) × (placeOf why ≡ P)
+
+-- a call has one answer. It is a refusal with number N and place P exactly if they are those of the first line of its table whose situation holds
+pub record Refuses {R : Type 0} (refused : Refusal → R) (Call : R → Type 0) (table : List Situation) : Type 0 where
+  pub answers : (r : R) × Call r
+  pub one-answer : (r q : R) → Call r → Call q → r ≡ q
+  pub exactly : (r : R) → Call r → (N P : ℕ) → IsRefusal refused r N P ↔ FirstOf table N P
+
+-- the same of a call with a lent slice, whose length is the room; and on refusal the slice is as it was
+pub record RefusesLent {R A : Type 0} (refused : Refusal → R) (Call : R → List A → List A → Type 0) (table : ℕ → List Situation) : Type 0 where
+  pub answers : (before : List A) → (r : R) × (after : List A) × Call r before after
+  pub one-answer : (r q : R) (before after later : List A) → Call r before after → Call q before later → (r ≡ q) × (after ≡ later)
+  pub exactly : (r : R) (before after : List A) → Call r before after → (N P : ℕ) → IsRefusal refused r N P ↔ FirstOf (table (length before)) N P
+  pub quiet : (why : Refusal) (before after : List A) → Call (refused why) before after → after ≡ before
+
+-- the only line printed for a job that is refused
+abbrev pub refusedLine : ℕ → ℕ → List ℕ
+refusedLine N P = bytes "refused=" ++ textOf (pos N) ++ bytes " place=" ++ textOf (pos P) ++ bytes "\n"

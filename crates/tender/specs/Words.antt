@@ -1,4 +1,4 @@
--- The buyer's words, as the conditions use them: constants, operations, graphs, bits. Assumes nothing.
+-- The buyer's words, as the conditions use them: constants, graphs, distance, bits, orders, lent slices. Assumes nothing.
 use mathlib.Core.Path.{_≡_}
 use mathlib.Core.Bool.{cond}
 use mathlib.Core.List.{List, [], _∷_, _++_, map, List·Memᴰ}
@@ -9,6 +9,10 @@ use lib.IntN.{ℤ, pos, negsuc, negℤ, natAbs, _+ℤ_, _-ℤ_, _*ℤ_}
 use lib.ListN.{length, getD, drop}
 use Rattle.meaning.specs.declared.Row.{Row}
 use Rattle.meaning.specs.Constants.{oddOf}
+use Rattle.meaning.specs.declared.Far.{Far}
+use Rattle.meaning.specs.declared.Far.the-variants as far
+use Rattle.meaning.specs.declared.Refusal.{Refusal}
+use Rattle.meaning.specs.Digits.{Digit, worth, canonic}
 
 -- ---- constants
 
@@ -18,6 +22,23 @@ pub record TakenApart (t sign : ℤ) (shift odd : ℕ) : Type 0 where
   pub parts :
       (((sign ≡ pos 1) ⊎ (sign ≡ negsuc 0)) × (odd % 2 ≡ 1))
       ⊎ ((sign ≡ pos 0) × (shift ≡ 0) × (odd ≡ 0))
+
+-- c is one of the distinct odd parts greater than one
+pub record WantedPart (ts : List ℤ) (c : ℕ) : Type 0 where
+  pub target : ℤ
+  pub listed : List·Memᴰ target ts
+  pub part : oddOf target ≡ c
+  pub above : 1 < c
+
+-- how many digits of a form are nonzero: -1 or 1
+abbrev pub nonzeroDigits : List Digit → ℕ
+nonzeroDigits [] = 0
+nonzeroDigits (d ∷ ds) = natAbs (worth d) + nonzeroDigits ds
+
+-- the sum, over constants, of the nonzero digits in the canonic form less one each
+abbrev pub digitSum : List ℕ → ℕ
+digitSum [] = 0
+digitSum (c ∷ cs) = (nonzeroDigits (canonic c) - 1) + digitSum cs
 
 -- ---- graphs
 
@@ -89,6 +110,29 @@ pub record Worked (xs : List Row) (x : ℤ) (ps : List ℤ) : Type 0 where
       → pos (2 ^ y .r) *ℤ getD ps (suc (length before)) (pos 0)
       ≡ turned (valueAt before (y .u)) (valueAt before (y .v)) (y .l1) (y .l2) (y .s) (joined (getD ps (y .u) (pos 0)) (getD ps (y .v) (pos 0)) (y .l1) (y .l2) (y .s))
   pub value : (before behind : List Row) (y : Row) → xs ≡ before ++ (y ∷ behind) → getD ps (suc (length before)) (pos 0) ≡ pos (y .value) *ℤ x
+
+-- ---- distance
+
+-- one bounded operation on two of the values, perhaps the same one twice, gives c
+pub record ByOne (b : ℕ) (vals : List ℕ) (c : ℕ) : Type 0 where
+  pub u : ℕ
+  pub v : ℕ
+  pub l1 : ℕ
+  pub l2 : ℕ
+  pub s : ℕ
+  pub r : ℕ
+  pub first : List·Memᴰ u vals
+  pub second : List·Memᴰ v vals
+  pub operation : AOperation b u v l1 l2 s r c
+
+-- one operation gives some s, and with s added one operation gives c
+pub record ByTwo (b : ℕ) (vals : List ℕ) (c : ℕ) : Type 0 where
+  pub s : ℕ
+  pub first : ByOne b vals s
+  pub second : ByOne b (s ∷ vals) c
+
+abbrev pub NotRefused : Far → Type 0
+NotRefused r = (why : Refusal) → ¬ (r ≡ far.Refused why)
 
 -- ---- bits, two's complement
 
