@@ -24,7 +24,7 @@ use Rattle.laws.proofs.Distance.Reach.{pairs-in, sign-in, gives-of-test
 -- ---- one choice
 
 -- a choice on the values of the indices that gives c
-pub record Makes (L : ℕ) (vals : List ℕ) (c : ℕ) (x : Choice) : Type 0 where
+pub record ChoiceFits (L : ℕ) (vals : List ℕ) (c : ℕ) (x : Choice) : Type 0 where
   pub first : x .u < length vals
   pub second : x .v < length vals
   pub operation : Valid L (getD vals (x .u) 0) (getD vals (x .v) 0) (x .l1) (x .l2) (x .s) (x .r) c
@@ -47,20 +47,20 @@ module _ (L : ℕ) (vals : List ℕ) (c i j l1 l2 s : ℕ) where
       go true t = tt
       go false t = t
 
-  chosen-from : (x : Choice) → i < length vals → j < length vals → chosen L vals c i j l1 l2 s ≡ some x → Makes L vals c x
+  chosen-from : (x : Choice) → i < length vals → j < length vals → chosen L vals c i j l1 l2 s ≡ some x → ChoiceFits L vals c x
   unfolding chosen
   chosen-from x hi hj e = go (gives? L u v l1 l2 s c) refl e
     where
-      go : (b : Bool) → gives? L u v l1 l2 s c ≡ b → cond b (some it) none ≡ some x → Makes L vals c x
+      go : (b : Bool) → gives? L u v l1 l2 s c ≡ b → cond b (some it) none ≡ some x → ChoiceFits L vals c x
       go true p q =
           let same : it ≡ x = cc in
-          subst (Makes L vals c) same (record { first = hi; second = hj; operation = gives-of-test L u v l1 l2 s c (T-of p) })
+          subst (ChoiceFits L vals c) same (record { first = hi; second = hj; operation = gives-of-test L u v l1 l2 s c (T-of p) })
       go false p q = absurd (let z : _≡_ {A = ℕ} 0 1 = cc in omega arith)
 
 -- ---- the search
 
 -- the choice that is found is valid, and gives c
-pub choice-from : (L : ℕ) (vals : List ℕ) (c : ℕ) (x : Choice) → choiceFor L vals c ≡ some x → Makes L vals c x
+pub choice-from : (L : ℕ) (vals : List ℕ) (c : ℕ) (x : Choice) → choiceFor L vals c ≡ some x → ChoiceFits L vals c x
 unfolding choiceFor
 choice-from L vals c x e =
     let (i, hi, e1) = first-from _ _ _ e in
@@ -82,7 +82,7 @@ ordered-got L vals c i j l1 l2 s r h l k =
     (first-got _ (sign-in s (k .sign)) (chosen-got L vals c i j l1 l2 s (test-of-gives L (getD vals i 0) (getD vals j 0) l1 l2 s r c k)))))
 
 -- and so if there is one in either order
-choice-got : (L : ℕ) (vals : List ℕ) (c : ℕ) (x : Choice) → Makes L vals c x → T (got (choiceFor L vals c))
+choice-got : (L : ℕ) (vals : List ℕ) (c : ℕ) (x : Choice) → ChoiceFits L vals c x → T (got (choiceFor L vals c))
 choice-got L vals c x f = go (decLe (x .u) (x .v))
   where
     go : Dec (x .u ≤ x .v) → T (got (choiceFor L vals c))
@@ -93,7 +93,7 @@ choice-got L vals c x f = go (decLe (x .u) (x .v))
 
 -- ---- a choice is found exactly if one operation reaches the value
 
-chosen-reached : (L : ℕ) (vals : List ℕ) (c : ℕ) (x : Choice) → Makes L vals c x → Reached L vals c
+chosen-reached : (L : ℕ) (vals : List ℕ) (c : ℕ) (x : Choice) → ChoiceFits L vals c x → Reached L vals c
 chosen-reached L vals c x f =
     record {
       u = getD vals (x .u) 0;
