@@ -1,8 +1,8 @@
 -- Condition 3 holds. Assumes nothing.
-use mathlib.Core.Path.{_≡_, refl, sym, ap, ap₂, _∙_, subst}
-use mathlib.Core.List.{List, [], _∷_, List·Memᴰ}
+use mathlib.Core.Path.{_≡_, refl, sym, ap, ap₂, _∙_, subst⁻¹}
+use mathlib.Core.List.{List, [], _∷_}
 use mathlib.Core.Logic.{_↔_}
-use Prim.Native.Nat.{ℕ, _+_, _-_, _*_, _≤_, _<_}
+use Prim.Native.Nat.{ℕ, _+_, _-_, _*_, _≤_}
 use native.Mathlib.Omega.{arith}
 use lib.IntN.{ℤ, natAbs}
 use lib.ListN.{length, drop}
@@ -15,21 +15,23 @@ use Rattle.meaning.specs.Basics.{over, sumOf}
 use Rattle.meaning.specs.Limits.{limit}
 use Rattle.meaning.specs.Constants.{wanted, Ascending}
 use Rattle.meaning.specs.Digits.{Digit, minus, none, plus, worth, isNonzero, nonzeros, canonic, csdSum}
-use Rattle.meaning.specs.Distance.{Reached, ReachedTwice, distance}
+use Rattle.meaning.specs.Distance.{distance}
 use Rattle.meaning.specs.Graph.{flat}
 use Rattle.meaning.specs.Generator.{generated}
 use Rattle.meaning.specs.Refusals.{drawnAs, drawnTold, firstOf, distanceOrder}
 use Rattle.meaning.specs.Calls.{Admits, Distances, Generates}
 use Rattle.laws.proofs.Digits.Canonic.{canonic-is, canonic-only}
-use Rattle.laws.proofs.Constants.Wanted.{wanted-in, in-wanted, wanted-ascending}
+use Rattle.laws.proofs.Constants.Wanted.{wanted-ascending}
 use Rattle.laws.proofs.Graph.Rows.{length-flat}
 use Rattle.laws.proofs.Generator.Generated.{drawn-accepts, call-of, call-rows, call-accepted}
 use Rattle.laws.proofs.Generator.Remaining.{generated-few}
 use Rattle.laws.proofs.Generator.Shortest.{fewest}
 use Rattle.laws.proofs.Distance.Distances.{distance-zero, distance-one, distance-two, distance-beyond, distance-same, distance-told, distance-refused}
 use Rattle.tender.specs.Condition3.{Condition3}
-use Rattle.tender.specs.Words.{Ascends, WantedPart, nonzeroDigits, digitSum, ByOne, ByTwo, NotRefused}
-use Rattle.tender.proofs.Rows.{operation-of, valid-of}
+use Rattle.tender.specs.Words.{Ascends, nonzeroDigits, digitSum, NotRefused}
+use Rattle.tender.specs.Rule.{Follows}
+use Rattle.tender.proofs.Reach.{wanted-are, one-of, of-one, two-of, of-two}
+use Rattle.tender.proofs.Rule.{follows}
 use Rattle.tender.proofs.Condition2.{front-kept}
 
 -- ---- the sum
@@ -48,12 +50,6 @@ pub sum-is : (cs : List ℕ) → csdSum cs ≡ digitSum cs
 unfolding sumOf
 sum-is [] = refl
 sum-is (c ∷ cs) = ap₂ (λ n m. (n - 1) + m) (count-is (canonic c)) (sum-is cs)
-
-wanted-are : (ts : List ℤ) (c : ℕ) → List·Memᴰ c (wanted ts) ↔ WantedPart ts c
-wanted-are ts c = (
-  λ i. let (t, j, e, h) = wanted-in ts c i in record { target = t; listed = j; part = e; above = h },
-  λ o. subst (λ z. List·Memᴰ z (wanted ts)) (o .part) (in-wanted ts (o .target) (o .listed) (subst (λ z. 1 < z) (sym (o .part)) (o .above))),
-)
 
 ascends : (cs : List ℕ) → Ascending cs → Ascends cs
 unfolding Ascending
@@ -78,38 +74,6 @@ kept b ts n before after d =
 -- ---- the distance
 
 module _ (b : ℕ) (vals : List ℕ) (c : ℕ) where
-  one-of : Reached (limit b) vals c → ByOne b vals c
-  one-of r =
-      let v = r .gives .valid in
-      record {
-        u = r .u;
-        v = r .v;
-        l1 = r .gives .l1;
-        l2 = r .gives .l2;
-        s = r .gives .s;
-        r = r .gives .r;
-        first = r .first;
-        second = r .second;
-        operation = operation-of b _ _ _ _ _ _ _ v;
-      }
-
-  of-one : ByOne b vals c → Reached (limit b) vals c
-  of-one o =
-      record {
-        u = o .u;
-        v = o .v;
-        first = o .first;
-        second = o .second;
-        gives = record { l1 = o .l1; l2 = o .l2; s = o .s; r = o .r; valid = valid-of b _ _ _ _ _ _ _ (o .operation) };
-      }
-
-module _ (b : ℕ) (vals : List ℕ) (c : ℕ) where
-  two-of : ReachedTwice (limit b) vals c → ByTwo b vals c
-  two-of r = record { s = r .s; first = one-of b vals (r .s) (r .first); second = one-of b (r .s ∷ vals) c (r .second) }
-
-  of-two : ByTwo b vals c → ReachedTwice (limit b) vals c
-  of-two o = record { s = o .s; first = of-one b vals (o .s) (o .first); second = of-one b (o .s ∷ vals) c (o .second) }
-
   -- an answer that is no refusal is the distance
   answer : (r : Far) → Distances b vals c r → NotRefused r → r ≡ distance (limit b) vals c
   answer r d n = go (firstOf (distanceOrder b vals c)) refl
@@ -126,7 +90,9 @@ condition3 =
     record {
       answered = answered;
       accepted = λ b ts n before after d. sym (call-accepted b ts n before after (call-of b ts n before after d));
-      by-the-rule = λ b ts n before after d. call-rows b ts n before after (call-of b ts n before after d);
+      rows-are-generated = λ b ts n before after d. call-rows b ts n before after (call-of b ts n before after d);
+      by-the-rule = λ b ts n before after d.
+          let k = call-of b ts n before after d in subst⁻¹ (Follows b ts []) (call-rows b ts n before after k) (follows b ts (k .admits));
       kept = kept;
       few-rows = λ b ts n before after d.
           let k = call-of b ts n before after d in omega (arith, generated-few b ts (k .admits), k .count, sum-is (wanted ts));

@@ -4,6 +4,8 @@ pub mod Worked
 pub mod Grammar
 pub mod Condition1
 pub mod Condition2
+pub mod Reach
+pub mod Rule
 pub mod Condition3
 pub mod Constants
 pub mod Listing

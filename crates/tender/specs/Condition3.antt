@@ -16,6 +16,7 @@ use Rattle.meaning.specs.Graph.{rows}
 use Rattle.meaning.specs.Generator.{generated}
 use Rattle.meaning.specs.Calls.{Admits, Checks, Distances, Generates}
 use Rattle.tender.specs.Words.{WantedPart, nonzeroDigits, digitSum, ByOne, ByTwo, NotRefused, Ascends}
+use Rattle.tender.specs.Rule.{Follows}
 
 pub record Condition3 : Type 0 where
   -- every list that is not refused is answered, where there is room for 128 rows: refusal 8 never comes
@@ -23,7 +24,9 @@ pub record Condition3 : Type 0 where
       → (n : ℕ) × (r ≡ Rows n)
   -- the reported rows, as they stand in the lent slice, are a graph that condition 2 accepts; nothing else is written
   pub accepted : (b : ℕ) (ts : List ℤ) (n : ℕ) (before after : List ℕ) → Generates b ts (Rows n) before after → Checks b ts n after Accepted
-  pub by-the-rule : (b : ℕ) (ts : List ℤ) (n : ℕ) (before after : List ℕ) → Generates b ts (Rows n) before after → rows n after ≡ generated b ts
+  pub rows-are-generated : (b : ℕ) (ts : List ℤ) (n : ℕ) (before after : List ℕ) → Generates b ts (Rows n) before after → rows n after ≡ generated b ts
+  -- and they are those of document 01's rule, step by step until nothing remains
+  pub by-the-rule : (b : ℕ) (ts : List ℤ) (n : ℕ) (before after : List ℕ) → Generates b ts (Rows n) before after → Follows b ts [] (rows n after)
   pub kept : (b : ℕ) (ts : List ℤ) (n : ℕ) (before after : List ℕ) → Generates b ts (Rows n) before after
       → (length after ≡ length before) × (drop (7 * n) after ≡ drop (7 * n) before)
   -- they are never more than the sum over the distinct odd parts greater than one

@@ -4,6 +4,7 @@ pub mod Grammar
 pub mod Table
 pub mod Condition1
 pub mod Condition2
+pub mod Rule
 pub mod Condition3
 pub mod Constants
 pub mod Listing

@@ -30,7 +30,7 @@ unfoldable pub Chain : ℕ → List Prefix → ℕ → Type 0
 Chain m [] k = m ≡ k
 Chain m (p ∷ ps) k = Step m p × Chain (p .value) ps k
 
-shifted-more : (g p : ℕ) → 1 ≤ p → 1 ≤ g → 2 ≤ 2 ^ g * p
+pub shifted-more : (g p : ℕ) → 1 ≤ p → 1 ≤ g → 2 ≤ 2 ^ g * p
 shifted-more zero p h l = absurd (omega arith)
 shifted-more (suc g) p h l =
     let a : 1 * 1 ≤ 2 ^ g * p = mul-le-mul (pow-pos g) h in

@@ -28,7 +28,7 @@ use Rattle.laws.proofs.Distance.Reach.{in-candidates, reach-is, reached
 
 -- ---- the test for two operations
 
-serves-is : (L : ℕ) (vals : List ℕ) (c s : ℕ) → T (serves? L vals c s) ↔ (Reached L vals s × Reached L (s ∷ vals) c)
+pub serves-is : (L : ℕ) (vals : List ℕ) (c s : ℕ) → T (serves? L vals c s) ↔ (Reached L vals s × Reached L (s ∷ vals) c)
 unfolding serves?
 serves-is L vals c s = (
   λ t. let p = both-of (reach? L vals s) (reach? L (s ∷ vals) c) t in (reach-is L vals s .0 (p .0), reach-is L (s ∷ vals) c .0 (p .1)),

@@ -1,18 +1,20 @@
 -- One operation on two values of a list, as a test and as a statement: both ways; and only the list's members count. Assumes nothing.
-use mathlib.Core.Path.{_≡_, refl, subst}
+use mathlib.Core.Path.{_≡_, refl, ap, _∙_, subst}
 use mathlib.Core.Bool.{Bool, _||_}
-use mathlib.Core.List.{List, [], _∷_, map, List·Memᴰ, List·Memᴰ·head, List·Memᴰ·tail, Memᴰ·append-left, Memᴰ·append-right, Memᴰ·map}
+use mathlib.Core.List.{List, [], _∷_, map, List·Memᴰ, List·Memᴰ·head, List·Memᴰ·tail, List·Memᴰ·cases-cons, Memᴰ·append-left, Memᴰ·append-right, Memᴰ·map, Memᴰ·of-map}
 use mathlib.Core.Logic.{⊎-elim, _↔_}
 use Prim.Native.Nat.{ℕ, zero, suc, _+_, _-_, _*_, _/_, _^_, _≤_, _<_, min}
 use native.Mathlib.Nat.{pow-succ'}
 use native.Mathlib.Omega.{arith}
+use native.Mathlib.Decide.{ℕ-discrete}
 use lib.Dec.{T}
 use lib.Pow.{pow-pos}
 use Rattle.meaning.specs.Basics.{any, upFrom, zeros}
 use Rattle.meaning.specs.Operation.{size, Valid, Gives, Odd}
 use Rattle.meaning.specs.Distance.{gives?, shiftPairs, oneOp?, reach?, Reached, candidates}
 use Rattle.laws.proofs.Lists.Has.{Among}
-use Rattle.laws.proofs.Lists.Tests.{any-in, in-any, in-up, either-of, of-left, of-right, bool-ext}
+use Rattle.laws.proofs.Lists.Least.{Ordered, Lex, ordered-append, ordered-map, up-ordered}
+use Rattle.laws.proofs.Lists.Tests.{any-in, in-any, in-up, up-in, either-of, of-left, of-right, bool-ext}
 use Rattle.laws.proofs.Operation.Result.{valid-of-test, test-of-valid, exact-of}
 
 -- ---- the shifts and the sign that are tried
@@ -24,6 +26,21 @@ pairs-in L (suc l) l2 a b m =
     let e : 0 ≡ l2 = omega arith in
     subst (λ z. List·Memᴰ (suc l, z) (shiftPairs L)) e
     (Memᴰ·append-right (map (λ l. (0, l)) (upFrom 0 (L + 1))) (Memᴰ·map (λ l. (l, 0)) (in-up 1 L (suc l) (omega arith) (omega arith))))
+
+-- they are in order
+pub pairs-ordered : (L : ℕ) → Ordered Lex (shiftPairs L)
+unfolding shiftPairs
+pairs-ordered L =
+    ordered-append Lex (map (λ l. (0, l)) (upFrom 0 (L + 1))) (map (λ l. (l, 0)) (upFrom 1 L))
+    (ordered-map Lex _<_ (λ l. (0, l)) (upFrom 0 (L + 1)) (λ x y s. ⊎-elim (λ h. absurd (omega arith)) (λ h. h .1) s) (up-ordered 0 (L + 1)))
+    (ordered-map Lex _<_ (λ l. (l, 0)) (upFrom 1 L) (λ x y s. ⊎-elim (λ h. h) (λ h. absurd (omega arith)) s) (up-ordered 1 L))
+    (λ p q i j s.
+    let (a, _, e) = Memᴰ·of-map (λ l. (0, l)) (upFrom 0 (L + 1)) i in
+    let (d, k, f) = Memᴰ·of-map (λ l. (l, 0)) (upFrom 1 L) j in
+    let m = up-in 1 L d k in
+    let x : 0 ≡ p .0 = ap (λ (z : ℕ × ℕ). z .0) e in
+    let y : d ≡ q .0 = ap (λ (z : ℕ × ℕ). z .0) f in
+    ⊎-elim (λ h. omega arith) (λ h. omega arith) s)
 
 pub sign-in : (s : ℕ) → s ≤ 1 → List·Memᴰ s (0 ∷ 1 ∷ [])
 sign-in zero h = List·Memᴰ·head refl
@@ -40,6 +57,11 @@ in-candidates (suc L) s o h =
     let half : 2 * (s / 2) + 1 ≡ s = omega arith in
     let i : List·Memᴰ (s / 2) (upFrom 1 (2 ^ (suc L - 1) - 1)) = rw e (in-up 1 (2 ^ L - 1) (s / 2) (omega arith) (omega (arith, pow-succ' 2 L, pow-pos L))) in
     subst (λ z. List·Memᴰ z (candidates (suc L))) half (Memᴰ·map (λ k. 2 * k + 1) i)
+
+pub candidates-ordered : (L : ℕ) → Ordered _<_ (candidates L)
+unfolding candidates
+candidates-ordered L =
+    ordered-map _<_ _<_ (λ k. 2 * k + 1) (upFrom 1 (2 ^ (L - 1) - 1)) (λ x y h. omega arith) (up-ordered 1 (2 ^ (L - 1) - 1))
 
 -- ---- one operation on u and v
 
@@ -107,3 +129,12 @@ reach-same L xs ys c h k =
     bool-ext (reach? L xs c) (reach? L ys c)
     (λ t. of-reached L ys c (reached-within L xs ys c h (reached-of L xs c t)))
     (λ t. of-reached L xs c (reached-within L ys xs c k (reached-of L ys c t)))
+
+-- what serves a constant that is not reached itself is no 1, where 1 is among the values, and so is tried
+pub serving-in : (L : ℕ) (vals : List ℕ) (c s : ℕ) → ¬ (Reached L (1 ∷ vals) c) → Reached L (1 ∷ vals) s → Reached L (s ∷ 1 ∷ vals) c → List·Memᴰ s (candidates L)
+serving-in L vals c s n r q = go (ℕ-discrete s 1)
+  where
+    go : Dec (s ≡ 1) → List·Memᴰ s (candidates L)
+    go (yes e) =
+        absurd (n (reached-within L (s ∷ 1 ∷ vals) (1 ∷ vals) c (λ a i. ⊎-elim (λ f. List·Memᴰ·head (f ∙ e)) (λ j. j) (List·Memᴰ·cases-cons i)) q))
+    go (no f) = let o = reached-odd L (1 ∷ vals) s r in let p = o .0 in in-candidates L s o (omega arith)

@@ -13,7 +13,7 @@ use Rattle.meaning.specs.declared.Answer.the-variants.{Accepted}
 use Rattle.meaning.specs.declared.Row.{Row}
 use Rattle.meaning.specs.Basics.{has, sumOf}
 use Rattle.meaning.specs.Limits.{limit}
-use Rattle.meaning.specs.Constants.{wanted}
+use Rattle.meaning.specs.Constants.{wanted, Ascending}
 use Rattle.meaning.specs.Graph.{values, ready}
 use Rattle.meaning.specs.Digits.{cost, csdSum}
 use Rattle.meaning.specs.Generator.{remaining, added, Draft, turn, turns, generated}
@@ -35,6 +35,27 @@ remaining-in vals (c ∷ cs) d i = go (has vals c) refl i (λ j. remaining-in va
     go false e j rec =
         ⊎-elim (λ q. (List·Memᴰ·head q, λ t. subst T e (subst (λ z. T (has vals z)) q t))) (λ k. let r = rec k in (List·Memᴰ·tail (r .0), r .1))
         (List·Memᴰ·cases-cons j)
+
+pub in-remaining : (vals cs : List ℕ) (d : ℕ) → List·Memᴰ d cs → (T (has vals d) → ⊥) → List·Memᴰ d (remaining vals cs)
+unfolding remaining
+in-remaining vals [] d i n = absurd (List·Memᴰ·not-nil i)
+in-remaining vals (c ∷ cs) d i n = go (has vals c) refl (List·Memᴰ·cases-cons i) (λ j. in-remaining vals cs d j n)
+  where
+    go : (b : Bool) → has vals c ≡ b → (d ≡ c) ⊎ List·Memᴰ d cs → (List·Memᴰ d cs → List·Memᴰ d (remaining vals cs))
+        → List·Memᴰ d (cond b (remaining vals cs) (c ∷ remaining vals cs))
+    go true e (inl q) rec = absurd (n (subst⁻¹ (λ z. T (has vals z)) q (T-of e)))
+    go true e (inr j) rec = rec j
+    go false e (inl q) rec = List·Memᴰ·head q
+    go false e (inr j) rec = List·Memᴰ·tail (rec j)
+
+pub remaining-ascending : (vals cs : List ℕ) → Ascending cs → Ascending (remaining vals cs)
+unfolding remaining Ascending
+remaining-ascending vals [] a = tt
+remaining-ascending vals (c ∷ cs) a = go (has vals c) (remaining-ascending vals cs (a .1))
+  where
+    go : (b : Bool) → Ascending (remaining vals cs) → Ascending (cond b (remaining vals cs) (c ∷ remaining vals cs))
+    go true h = h
+    go false h = (λ d i. a .0 d (remaining-in vals cs d i .0), h)
 
 -- ---- a sum over what remains, for more ready values
 
