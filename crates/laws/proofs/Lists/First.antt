@@ -49,7 +49,8 @@ module _ {ℓ κ} {A : Type ℓ} {B : Type κ} (f : A → Option B) where
       go (some c) = refl
 
   -- and one is found if some member gives one
-  pub first_got : {xs : List A} {x : A} → Memᴰ x xs → T (got (f x)) → T (got (first_some f xs))
+  pub first_got : {x : A} {xs : List A} → Memᴰ x xs → T (got (f x)) → T (got (first_some f xs))
+  first_got {xs = []} m t = elim m [ ]
   first_got {xs = y ∷ ys} (Memᴰ.head e) t =
       subst⁻¹ T (got_step y ys) (of_left (got (f y)) (got (first_some f ys)) (subst (λ z. T (got (f z))) e t))
   first_got {xs = y ∷ ys} (Memᴰ.tail i) t =

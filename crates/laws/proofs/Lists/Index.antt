@@ -17,7 +17,7 @@ get_or_in [] i d h = absurd (omega arith)
 get_or_in (x ∷ xs) zero d h = Memᴰ.head refl
 get_or_in (x ∷ xs) (suc i) d h = Memᴰ.tail (get_or_in xs i d (omega arith))
 
-pub in_get_or : {xs : List ℕ} {u : ℕ} → Memᴰ u xs → (i : ℕ) × (i < length xs) × (u ≡ get_or xs i 0)
+pub in_get_or : {u : ℕ} {xs : List ℕ} → Memᴰ u xs → (i : ℕ) × (i < length xs) × (u ≡ get_or xs i 0)
 in_get_or (Memᴰ.head e) = (0, omega arith, e)
 in_get_or (Memᴰ.tail j) = let (i, h, e) = in_get_or j in (suc i, omega arith, e)
 

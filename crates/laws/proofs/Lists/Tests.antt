@@ -66,11 +66,13 @@ any_in f (x ∷ xs) t =
     (λ p. let (a, i, q) = any_in f xs p in (a, Memᴰ.tail i, q))
     (either_of (f x) (any f xs) t)
 
-pub in_any {ℓ} : {A : Type ℓ} (f : A → Bool) {xs : List A} {a : A} → Memᴰ a xs → T (f a) → T (any f xs)
+pub in_any {ℓ} : {A : Type ℓ} (f : A → Bool) {a : A} {xs : List A} → Memᴰ a xs → T (f a) → T (any f xs)
+in_any {A = A} f {a = a} {xs = []} m t = elim m [ ]
 in_any f {xs = x ∷ xs} (Memᴰ.head e) t = of_left (f x) (any f xs) (subst (λ y. T (f y)) e t)
 in_any f {xs = x ∷ xs} (Memᴰ.tail i) t = of_right (f x) (any f xs) (in_any f i t)
 
-pub every_in {ℓ} : {A : Type ℓ} (f : A → Bool) {xs : List A} {a : A} → T (every f xs) → Memᴰ a xs → T (f a)
+pub every_in {ℓ} : {A : Type ℓ} (f : A → Bool) {a : A} {xs : List A} → T (every f xs) → Memᴰ a xs → T (f a)
+every_in {A = A} f {a = a} {xs = []} t m = elim m [ ]
 every_in f {xs = x ∷ xs} t (Memᴰ.head e) = subst (λ y. T (f y)) (sym e) (both_of (f x) (every f xs) t).0
 every_in f {xs = x ∷ xs} t (Memᴰ.tail i) = every_in f (both_of (f x) (every f xs) t).1 i
 
