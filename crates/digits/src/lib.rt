@@ -1,4 +1,6 @@
 // The canonic form of a number: how many of its digits are nonzero, its prefixes, and the places of its digits.
+#![tactic(auto)]
+
 ghost use Rattle.std.specs.Prelude.{◌≡◌, ◌<◌, length};
 ghost use Rattle.meaning.specs.Digits.{above as digits_above, canonic, nonzeros, prefixes as digits_prefixes, form_of, minus_places};
 ghost use Rattle.meaning.specs.Calls.{WritesForm};

@@ -1,4 +1,6 @@
 // Distance: how many operations make a target from a ready list.
+#![tactic(auto)]
+
 mod ready_list;
 
 ghost use Rattle.std.specs.Prelude.{◌≡◌, ◌≤◌, length};

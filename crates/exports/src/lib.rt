@@ -1,5 +1,7 @@
 // The calls for programs in other languages: numbers and slices in, one signed number out (codes/specs/Codes.antt). Slices are
 // lent for the call alone; include/tauwaage.h says the rest.
+#![tactic(auto)]
+
 mod codes;
 
 ghost use Rattle.std.specs.Prelude.{◌+◌, length};

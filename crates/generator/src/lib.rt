@@ -1,4 +1,6 @@
 // The generator: while wanted constants remain, a turn of the rule.
+#![tactic(auto)]
+
 mod draft;
 mod first_choice;
 mod remaining;

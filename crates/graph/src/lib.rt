@@ -1,4 +1,6 @@
 // Checks any graph for a list and a bit limit.
+#![tactic(auto)]
+
 mod valid_row;
 
 ghost use Rattle.std.specs.Prelude.{◌≡◌, ◌||◌, [], ◌≤◌, leb, length};

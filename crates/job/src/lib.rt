@@ -1,4 +1,6 @@
 // The job: its text, read line by line.
+#![tactic(auto)]
+
 ghost use Rattle.std.specs.Prelude.{◌≡◌, length, set};
 ghost use Rattle.meaning.specs.Forms.{bad, line_at};
 ghost use Rattle.meaning.specs.Job.{Job, job_of, only, report_at, targets_at, numbers as job_numbers};

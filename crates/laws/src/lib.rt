@@ -1,1 +1,2 @@
 // The laws of the definitions in crates/meaning: a module for each matter, in proofs/.
+#![tactic(auto)]

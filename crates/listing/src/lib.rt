@@ -1,4 +1,6 @@
 // The listing of a graph.
+#![tactic(auto)]
+
 mod head;
 mod lines;
 

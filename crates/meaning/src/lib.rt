@@ -1,4 +1,6 @@
 // The shapes of the answers that the calls hand back. What each of them means stands in specs/.
+#![tactic(auto)]
+
 ghost use Rattle.std.specs.Prelude.{◌≡◌};
 ghost use Rattle.meaning.specs.Refusals.{number, place_of};
 

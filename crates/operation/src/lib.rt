@@ -1,4 +1,6 @@
 // The operation: n, r and value of one choice of operands, shifts and sign.
+#![tactic(auto)]
+
 ghost use Rattle.std.specs.Prelude.{◌≡◌, [], ◌∷◌, ◌+◌, ◌<◌, ◌≤◌, min, leb, eqb};
 ghost use Rattle.meaning.specs.Basics.{all};
 ghost use Rattle.meaning.specs.Limits.{most_limit};

@@ -1,4 +1,6 @@
 // The products of a checked graph: each row's from its operands' products as its words say, and each target's from its row's, in 64 bits.
+#![tactic(auto)]
+
 mod row_product;
 
 ghost use Rattle.std.specs.Prelude.{◌≡◌, map, ◌+◌, ◌≤◌, T, length, take};

@@ -1,4 +1,6 @@
 // A job's bytes in, and its listing or the line of its refusal out.
+#![tactic(auto)]
+
 mod drawing;
 
 ghost use Rattle.meaning.specs.Calls.{Prints};

@@ -1,5 +1,7 @@
 // A graph's rows in a lent slice of words: the only place that knows which word stands where. One row read and written, the
 // value of an index, the values of all, and the index that an output uses.
+#![tactic(auto)]
+
 ghost use Rattle.std.specs.Prelude.{◌≡◌, ◌+◌, ◌*◌, ◌≤◌, length};
 ghost use Rattle.meaning.specs.Basics.{all, over, over_at};
 ghost use Rattle.meaning.specs.Graph.{row_length, row_tests, words, row_after, rows, values as graph_values, value_at, output_index};

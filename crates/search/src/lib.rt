@@ -1,4 +1,6 @@
 // What one operation reaches, kept as a map of bytes, one for each odd number.
+#![tactic(auto)]
+
 pub mod ready;
 pub mod serving;
 

@@ -1,4 +1,6 @@
 // Reads a job from standard input and prints its listing, or the line of its refusal.
+#![tactic(auto)]
+
 use libc::{STDERR_FILENO, STDIN_FILENO, STDOUT_FILENO};
 use meaning::{JOB_BYTES, Printed, TEXT_ROOM};
 

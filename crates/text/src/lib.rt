@@ -1,4 +1,6 @@
 // Texts in slices of bytes: what stands at a place, a number there, and a line of a form.
+#![tactic(auto)]
+
 pub mod decimal;
 pub mod forms;
 

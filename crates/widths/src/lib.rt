@@ -1,4 +1,6 @@
 // Widths: how many bits each row and each output of a graph needs for inputs of a given width.
+#![tactic(auto)]
+
 pub mod bits;
 
 ghost use Rattle.std.specs.Prelude.{◌≡◌, map, ◌+◌, ◌≤◌, length};

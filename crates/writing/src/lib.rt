@@ -1,4 +1,6 @@
 // Texts, and lines by their forms, written at a place of a lent buffer that has room for them; each function hands back the place behind its text.
+#![tactic(auto)]
+
 ghost use Rattle.std.specs.Prelude.{◌≡◌, ◌+◌, ◌≤◌, pos, length, get_or};
 ghost use Rattle.meaning.specs.Forms.{piece as forms_piece, line_of};
 ghost use Rattle.meaning.specs.Text.{unsigned_text, text_of};

@@ -1,0 +1,23 @@
+-- `mark` meets its contract: n is 0, or what is left of it is too great, or one byte is set. Assumes nothing.
+use mathlib.Core.Path.{refl}
+use native.Mathlib.Omega.{arith}
+use borrow.Author.Rules.{rules}
+use Rattle.search.proofs.Marks.{mark_none, mark_past, mark_one}
+use Rattle.search.proofs.mark.Goals as goal
+
+pub returns-then-n-eq0 : goal.returns-then-n-eq0
+returns-then-n-eq0 c =
+    let a = c.args in
+    mark_none a.limit a.map.now a.map.now a.n refl c.if-n-eq0.true
+
+pub returns-then-m-power : goal.returns-then-m-power
+returns-then-m-power c =
+    let o = c.odd_part-m in
+    let st = c.before.before.before.before.before in
+    mark_one st.args.limit st.args.map.now _ st.args.n o.result refl o.ensures (omega arith) (omega arith) st.requires.1
+
+pub returns-else-m-power : goal.returns-else-m-power
+returns-else-m-power c =
+    let o = c.odd_part-m in
+    let a = c.args in
+    mark_past a.limit a.map.now a.map.now a.n o.result refl o.ensures (omega arith)

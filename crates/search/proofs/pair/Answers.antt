@@ -1,0 +1,13 @@
+-- `pair` meets its contract: an operation has one of its two operands unshifted. Assumes nothing.
+use mathlib.Core.Path.{sym}
+use Rattle.search.proofs.Sides.{one_op_is}
+use Rattle.search.proofs.Marks.{adds_then}
+use borrow.Author.Rules.{rules}
+use Rattle.search.proofs.pair.Goals as goal
+
+pub returns : goal.returns
+returns c =
+    let two = c.before.before in
+    let one = two.before.before.before.before in
+    let a = two.args in
+    adds_then one.side.ensures two.side-2.ensures (λ k. sym (one_op_is a.limit a.u a.v k))

@@ -1,0 +1,38 @@
+-- `with_each` meets its contract. The loop's invariant: the results with the first i values are marked, and nothing else is new. Assumes nothing.
+use mathlib.Core.Path.{◌≡◌, subst}
+use Prim.Native.Nat.{ℕ, ◌-◌, ◌≤◌}
+use native.Mathlib.Omega.{arith}
+use borrow.Author.Rules.{rules}
+use lib.ListN.{length, take}
+use Rattle.search.specs.Sides.{is_with}
+use Rattle.search.specs.Marks.{Adds}
+use Rattle.search.proofs.Marks.{with_start, with_more}
+use Rattle.search.proofs.with_each.Goals as goal
+
+pub loop-i-init : goal.loop-i-init
+loop-i-init c =
+    let a = c.args in
+    (omega arith, with_start a.limit a.v a.ready.now a.map-1.now)
+
+pub pair-requires : goal.pair-requires
+pair-requires c =
+    let at = c.before.before.before in
+    let st = at.before.before.before in
+    let e : length at.loop-i.map-1 ≡ length st.args.map-1.now = at.loop-i.invariant.1.long in
+    ((st.requires.0.0, omega (arith, st.requires.0.1)), st.requires.2, st.requires.1.1 at.loop-i.i (omega arith))
+
+pub loop-i-preserved : goal.loop-i-preserved
+loop-i-preserved c =
+    let one = c.before.before in
+    let at = one.before.before.before.before in
+    let a = at.args in
+    (omega (arith, at), with_more a.limit a.v a.ready.now at.loop-i.i (omega (arith, at)) at.loop-i.invariant.1 one.pair.ensures)
+
+pub shape_of-map : goal.shape_of-map
+shape_of-map c = c.loop-i.invariant.1.long
+
+pub returns : goal.returns
+returns c =
+    let a = c.args in
+    let e : c.loop-i.i ≡ a.n = omega arith in
+    subst (λ (i : ℕ). Adds a.map-1.now c.loop-i.map-1 (λ c. is_with a.limit a.v (take i a.ready.now) c)) e c.loop-i.invariant.1
