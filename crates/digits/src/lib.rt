@@ -9,14 +9,14 @@ ghost use Rattle.digits.specs.Held.{prefixes_held, near as held_near, end_sign, 
 use meaning::{Formed, Prefix, Refusal};
 
 // The prefixes of a number, shortest first; the places from `count` on are all zero.
-#[derive(Drop)]
+#[derive(Clone, Copy)]
 pub struct Prefixes {
     pub count: u32,
     pub list: [Prefix; 16],
 }
 
 // A form as two words, the places of its digits 1 and of its digits -1, and how many digits are nonzero.
-#[derive(Drop)]
+#[derive(Clone, Copy)]
 pub struct Places {
     pub plus: u32,
     pub minus: u32,

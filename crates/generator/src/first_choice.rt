@@ -8,14 +8,14 @@ ghost use Rattle.generator.specs.Search.{found, Sought, Searchable, Tried, choic
 
 use meaning::Choice;
 
-#[derive(Drop)]
+#[derive(Clone, Copy)]
 pub enum Found {
     At(Choice),
     Missing,
 }
 
 // Two ready values u and v with their indices i and j, and the constant c wanted of them.
-#[derive(Drop)]
+#[derive(Clone, Copy)]
 pub struct Pair {
     pub limit: u32,
     pub c: u32,

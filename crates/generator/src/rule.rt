@@ -13,14 +13,14 @@ use search::ready::Ready;
 use search::serving::Trials;
 
 // The smallest constant that one operation reaches.
-#[derive(Drop)]
+#[derive(Clone, Copy)]
 pub enum Near {
     At(u32),
     Nothing,
 }
 
 // A constant and the smallest value that serves it.
-#[derive(Drop)]
+#[derive(Clone, Copy)]
 pub enum Chosen {
     By { c: u32, s: u32 },
     Nothing,

@@ -23,7 +23,7 @@ fn number_line(s: &[u8], at: usize, form: &[u8]) -> Read
 }
 
 // By width or not, and where the next line begins.
-#[derive(Drop)]
+#[derive(Clone, Copy)]
 enum Order {
     By(bool, usize),
     Neither,
@@ -42,14 +42,14 @@ fn report_line(s: &[u8], at: usize) -> Order
 }
 
 // How many targets a line has, and where the next line begins.
-#[derive(Drop)]
+#[derive(Clone, Copy)]
 enum Counted {
     Listed(usize, usize),
     Unlisted,
 }
 
 // A line's targets; those that have a place are kept.
-#[derive(Drop)]
+#[derive(Clone, Copy)]
 struct Targets {
     read: Counted,
     values: [i32; JOB_TARGETS],
@@ -113,14 +113,14 @@ fn targets_line(s: &[u8], at: usize) -> Targets
 }
 
 // What a job's text asks for, with the count of its targets, or the line at which it is malformed.
-#[derive(Drop)]
+#[derive(Clone, Copy)]
 pub enum Asks {
     Wants { head: Head, count: usize },
     Malformed(u32),
 }
 
 // The targets stand in front.
-#[derive(Drop)]
+#[derive(Clone, Copy)]
 pub struct Parsed {
     pub asks: Asks,
     pub targets: [i32; JOB_TARGETS],

@@ -5,7 +5,7 @@ ghost use Rattle.std.specs.Prelude.{◌≡◌};
 ghost use Rattle.meaning.specs.Refusals.{number, place_of};
 
 // A constant taken apart: sign × 2^shift × odd. Zero has sign 0, shift 0 and odd 0.
-#[derive(Drop)]
+#[derive(Clone, Copy)]
 pub struct Parts {
     pub sign: i32,
     pub shift: u32,
@@ -13,7 +13,7 @@ pub struct Parts {
 }
 
 // What an operation makes: n, r and its value.
-#[derive(Drop)]
+#[derive(Clone, Copy)]
 pub enum Operated {
     Made { n: i64, r: u32, value: u32 },
     Invalid,
@@ -42,7 +42,7 @@ pub const ROW_LENGTH: usize = 7;
 pub const FULL_LENGTH: usize = ROW_LENGTH * MOST_ROWS;
 
 // A graph's row, its words in their order.
-#[derive(Drop)]
+#[derive(Clone, Copy)]
 pub struct Row {
     pub u: u32,
     pub v: u32,
@@ -54,7 +54,7 @@ pub struct Row {
 }
 
 // A choice of operands for a row: their indices, shifts and sign, and r.
-#[derive(Drop)]
+#[derive(Clone, Copy)]
 pub struct Choice {
     pub u: u32,
     pub v: u32,
@@ -66,7 +66,7 @@ pub struct Choice {
 
 // A prefix of a canonic form that ends at a nonzero digit: the one before it, the gap between their last digits,
 // s = 0 for digit 1 and 1 for digit -1, and its value.
-#[derive(Drop)]
+#[derive(Clone, Copy)]
 pub struct Prefix {
     pub before: u32,
     pub gap: u32,
@@ -75,7 +75,7 @@ pub struct Prefix {
 }
 
 // A line of the table of refusals, with its place where it has one (specs/Refusals.antt has the numbers).
-#[derive(Drop)]
+#[derive(Clone, Copy)]
 pub enum Refusal {
     Bits,
     List,
@@ -132,14 +132,14 @@ impl Refusal {
 }
 
 // What a call that lends its results answers.
-#[derive(Drop)]
+#[derive(Clone, Copy)]
 pub enum Answer {
     Accepted,
     Refused(Refusal),
 }
 
 // How far a constant is from a list.
-#[derive(Drop)]
+#[derive(Clone, Copy)]
 pub enum Far {
     Zero,
     One,
@@ -149,14 +149,14 @@ pub enum Far {
 }
 
 // How many rows the generator has written.
-#[derive(Drop)]
+#[derive(Clone, Copy)]
 pub enum Drawn {
     Rows(u32),
     Refused(Refusal),
 }
 
 // What a job and a listing say first: the bit limit, the input width, and whether the row lines are ordered by width.
-#[derive(Drop)]
+#[derive(Clone, Copy)]
 pub struct Head {
     pub bits: i32,
     pub input: i32,
@@ -187,21 +187,21 @@ pub const OUT_LINE_ROOM: usize = 41;
 pub const TEXT_ROOM: usize = HEAD_ROOM + MOST_ROWS * ROW_LINE_ROOM + MOST_TARGETS * OUT_LINE_ROOM;
 
 // A number at a place of a text and the place behind it, or that none stands there.
-#[derive(Drop)]
+#[derive(Clone, Copy)]
 pub enum Read {
     Number(i32, usize),
     Bad,
 }
 
 // How many bytes were written for a job's text.
-#[derive(Drop)]
+#[derive(Clone, Copy)]
 pub enum Printed {
     Bytes(usize),
     Refused(Refusal),
 }
 
 // How many digits of the canonic form that was written are nonzero.
-#[derive(Drop)]
+#[derive(Clone, Copy)]
 pub enum Formed {
     Digits(u32),
     Refused(Refusal),

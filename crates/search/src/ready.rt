@@ -6,7 +6,7 @@ ghost use Rattle.search.specs.Held.{listed, Started, Added};
 use meaning::MOST_READY;
 
 // As many values as a full graph has indices; the places from `count` on hold no value of the set.
-#[derive(Drop)]
+#[derive(Clone, Copy)]
 pub struct Ready {
     pub values: [u32; MOST_READY],
     pub count: usize,

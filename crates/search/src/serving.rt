@@ -11,7 +11,7 @@ ghost use Rattle.search.specs.Choices.{chosen_in};
 ghost use Rattle.search.specs.Least.{Lowers, Looking, LookingAll};
 
 // The smallest value that serves and the candidates tried, or only these.
-#[derive(Drop)]
+#[derive(Clone, Copy)]
 pub enum Trials {
     At { s: u32, tried: u32 },
     Nothing { tried: u32 },

@@ -17,14 +17,14 @@ pub fn taken(c: u8) -> usize
 }
 
 // Where the line behind begins.
-#[derive(Drop)]
+#[derive(Clone, Copy)]
 pub enum End {
     At(usize),
     Bad,
 }
 
 // A line's numbers, in front: those that have a place.
-#[derive(Drop)]
+#[derive(Clone, Copy)]
 pub struct Fields {
     pub end: End,
     pub values: [i32; 16],

@@ -18,10 +18,10 @@ use Rattle.operation.proofs.made.Goals as goal
 use Rattle.operation.proofs.made.Goals.{After-whole_of-n, Else-not-shifts_fit}
 
 shifts : (c : Else-not-shifts_fit) → let s = c.args in all (leb s.l1 s.limit ∷ leb s.l2 s.limit ∷ leb s.s 1 ∷ eqb (min s.l1 s.l2) 0 ∷ []) ≡ true
-shifts c = sym c.shifts_fit.ensures ∙ not-false _ c.if-not-shifts_fit.false
+shifts c = sym c.shifts_fit.ensures ∙ c.if-not-shifts_fit.false
 
 pub returns-then-not-shifts_fit : goal.returns-then-not-shifts_fit
-returns-then-not-shifts_fit c = sym (operated_not _ _ _ _ _ _ (sym c.shifts_fit.ensures ∙ not-true _ c.if-not-shifts_fit.true))
+returns-then-not-shifts_fit c = sym (operated_not _ _ _ _ _ _ (sym c.shifts_fit.ensures ∙ c.if-not-shifts_fit.true))
 
 pub whole_of-n-requires : goal.whole_of-n-requires
 whole_of-n-requires c =

@@ -15,7 +15,7 @@ use Rattle.operation.proofs.operate.Goals as goal
 use Rattle.operation.proofs.operate.Goals.{Else-not-within}
 
 in_range : (c : Else-not-within) → all (bit_tests c.args.b) ≡ true
-in_range c = sym c.within.ensures ∙ not-false _ c.if-not-within.false
+in_range c = sym c.within.ensures ∙ c.if-not-within.false
 
 small : (c : Else-not-within) → c.args.b ≤ 16
 small c = leb→le _ _ (all_of (bit_tests c.args.b) (T_of (in_range c))).1.0
@@ -24,7 +24,7 @@ pub returns-then-not-within : goal.returns-then-not-within
 unfolding operated_under
 returns-then-not-within c =
     let s = c.args in
-    sym (ap (λ t. cond t (operated (limit s.b) s.u s.v s.l1 s.l2 s.s) Invalid) (sym c.within.ensures ∙ not-true _ c.if-not-within.true))
+    sym (ap (λ t. cond t (operated (limit s.b) s.u s.v s.l1 s.l2 s.s) Invalid) (sym c.within.ensures ∙ c.if-not-within.true))
 
 pub limit-limit-requires : goal.limit-limit-requires
 limit-limit-requires c = small c

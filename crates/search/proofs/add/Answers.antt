@@ -15,7 +15,7 @@ with_each-requires c =
 pub returns : goal.returns
 returns c =
     let each = c.before.before.before.before.before.before in
-    let one = each.with_Each.ensures in
+    let one = each.with_each.ensures in
     let two = c.side.ensures in
     let st = each.before.before.before.before in
     let a = st.args in

@@ -11,7 +11,7 @@ use Rattle.search.proofs.side.Goals as goal
 pub loop-l-init : goal.loop-l-init
 loop-l-init c =
     let a = c.args in
-    (omega arith, refl, omega (arith, c.power.ensures), side_start a.limit a.u a.v a.map-1.now)
+    (omega arith, refl, omega (arith, c.power.ensures), side_start a.limit a.u a.v a.map.now)
 
 pub shape_of-map-then-w-far : goal.shape_of-map-then-w-far
 shape_of-map-then-w-far c = c.loop-l.invariant.3.long
@@ -45,4 +45,4 @@ pub returns : goal.returns
 returns c =
     let a = c.args in
     let e : c.loop-l.l ≡ a.limit + 1 = omega arith in
-    subst (λ (l : ℕ). Adds a.map-1.now c.loop-l.map-1 (λ c. is_side_to a.limit a.u a.v l c)) e c.loop-l.invariant.3
+    subst (λ (l : ℕ). Adds a.map.now c.loop-l.map (λ c. is_side_to a.limit a.u a.v l c)) e c.loop-l.invariant.3

@@ -12,13 +12,13 @@ use Rattle.search.proofs.with_each.Goals as goal
 pub loop-i-init : goal.loop-i-init
 loop-i-init c =
     let a = c.args in
-    (omega arith, with_start a.limit a.v a.ready.now a.map-1.now)
+    (omega arith, with_start a.limit a.v a.ready.now a.map.now)
 
 pub pair-requires : goal.pair-requires
 pair-requires c =
     let at = c.before.before.before in
     let st = at.before.before.before in
-    let e : length at.loop-i.map-1 ≡ length st.args.map-1.now = at.loop-i.invariant.1.long in
+    let e : length at.loop-i.map ≡ length st.args.map.now = at.loop-i.invariant.1.long in
     ((st.requires.0.0, omega (arith, st.requires.0.1)), st.requires.2, st.requires.1.1 at.loop-i.i (omega arith))
 
 pub loop-i-preserved : goal.loop-i-preserved
@@ -35,4 +35,4 @@ pub returns : goal.returns
 returns c =
     let a = c.args in
     let e : c.loop-i.i ≡ a.n = omega arith in
-    subst (λ (i : ℕ). Adds a.map-1.now c.loop-i.map-1 (λ c. is_with a.limit a.v (take i a.ready.now) c)) e c.loop-i.invariant.1
+    subst (λ (i : ℕ). Adds a.map.now c.loop-i.map (λ c. is_with a.limit a.v (take i a.ready.now) c)) e c.loop-i.invariant.1

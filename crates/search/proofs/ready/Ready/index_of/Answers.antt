@@ -13,17 +13,14 @@ use Rattle.search.proofs.ReadyLaws.{list_length_lem}
 use Rattle.search.proofs.ready.Ready.index_of.Goals as goal
 use Rattle.search.proofs.ready.Ready.index_of.Goals.{After-index_from, Start}
 
-places : (c : Start) → length c.args.t1.values ≡ most_ready
+places : (c : Start) → length c.args.self.values ≡ most_ready
 places c = search rules
-
-abbrev start : After-index_from → Start
-start c = c.before.before.before.before
 
 few : (r : Ready) (v : ℕ) → length r.values ≡ most_ready → index_from 0 (listed r) v ≤ most_ready
 few r v e = omega (arith, index_most (listed r) v, list_length_lem r e)
 
-its_index : (c : After-index_from) → c.index_from.result ≡ index_from 0 (listed (start c).args.t1) (start c).args.v
+its_index : (c : After-index_from) → c.index_from.result ≡ index_from 0 (listed c.args.self) c.args.v
 its_index c = c.index_from.ensures
 
 pub overflow_cast-result : goal.overflow_cast-result
-overflow_cast-result c = omega (arith, its_index c, few (start c).args.t1 (start c).args.v (places (goal.at.overflow_cast-result c).Start))
+overflow_cast-result c = omega (arith, its_index c, few c.args.self c.args.v (places (goal.at.overflow_cast-result c).Start))

@@ -8,7 +8,7 @@ use Rattle.search.proofs.ReadyLaws.{added_full, added_room}
 use Rattle.search.proofs.ready.Ready.with.Goals as goal
 use Rattle.search.proofs.ready.Ready.with.Goals.{Start}
 
-places : (c : Start) → length c.args.t1.values ≡ most_ready
+places : (c : Start) → length c.args.self.values ≡ most_ready
 places c = search rules
 
 pub returns-then-at-ge-MOST_READY : goal.returns-then-at-ge-MOST_READY

@@ -1,0 +1,14 @@
+use mathlib.Core.Path.{◌≡◌, ap}
+use Prim.Native.Nat.{◌+◌, ◌≤◌}
+use native.Mathlib.Omega.{arith}
+use borrow.Author.Rules.{rules}
+use Rattle.meaning.specs.Digits.{canonic, nonzeros}
+use Rattle.laws.proofs.Digits.Canonic.{above_less}
+use Rattle.laws.proofs.Digits.Count.{nonzeros_zero, nonzeros_step, few_seventeen}
+use Rattle.digits.proofs.nonzero_digits.Given as goal
+
+abbrev pub invariant-loop-left : goal.invariant-loop-left
+invariant-loop-left l = (l.count + nonzeros (canonic l.left) ≡ nonzeros (canonic l.n)) × (l.count ≤ 17)
+
+abbrev pub decreases-loop-left : goal.decreases-loop-left
+decreases-loop-left l = l.left

@@ -1,0 +1,16 @@
+use mathlib.Core.Path.{◌≡◌, refl, ◌∙◌, sym}
+use Prim.Native.Nat.{ℕ, suc, ◌+◌, ◌-◌, ◌*◌, ◌^◌, ◌≤◌, ◌<◌}
+use native.Mathlib.Nat.{pow-suc, pow-le-pow_right}
+use native.Mathlib.Omega.{arith}
+use lib.ListN.{drop, take, get_or}
+use Rattle.meaning.specs.Text.{span, value_of}
+use Rattle.laws.proofs.Text.Numerals.{span_digit, span_more, digit_range, value_more, value_end}
+use Rattle.text.proofs.decimal.value_of.Given as goal
+
+abbrev pub invariant-loop-i : goal.invariant-loop-i
+invariant-loop-i l =
+    (l.from ≤ l.i) × (l.i ≤ l.to) × (l.to ≡ l.i + span (drop l.i l.s)) × (l.v < 10 ^ (l.i - l.from))
+    × (value_of 0 (take (l.to - l.from) (drop l.from l.s)) ≡ value_of l.v (take (l.to - l.i) (drop l.i l.s)))
+
+abbrev pub decreases-loop-i : goal.decreases-loop-i
+decreases-loop-i l = l.to - l.i
