@@ -6,6 +6,7 @@ use borrow.Author.Rules.{rules}
 use lib.IntN.{pos}
 use lib.ListN.{length, length-set}
 use mir.Syntax.{w32}
+use mir.Val.{SFits}
 use mir.ValLaws.{to_z-of_z}
 use Rattle.meaning.specs.declared.Refusal.TheVariants as no
 use Rattle.meaning.specs.Basics.{over}
@@ -40,12 +41,13 @@ overflow_cast-out-2 c = let f = fit (goal.at.overflow_cast-out-2 c).After-take_a
 pub returns : goal.returns
 unfolding apart_told apart_written over
 returns c =
-    let a = c.before.before.before in
-    let out = a.args.out.now in
+    let out = c.args.out.now in
     let room : 3 ≤ length out = omega arith in
     let f = fit (goal.at.returns c).After-take_apart-parts in
     let shift = ap (λ p. p.shift) (found (goal.at.returns c).After-take_apart-parts) in
     let odd = ap (λ p. p.odd) (found (goal.at.returns c).After-take_apart-parts) in
+    let low : SFits w32 (pos c.take_apart-parts.result.shift) = omega arith in
+    let high : SFits w32 (pos c.take_apart-parts.result.odd) = omega arith in
     accepted_done _ _ _ _ (enough_room 3 _ room)
-    (rw (front_three (pos 0) out room, to_z-of_z w32 _ f.sign, to_z-of_z w32 _ (overflow_cast-out c.before), to_z-of_z w32 _ (overflow_cast-out-2 c))
+    (rw (front_three (pos 0) out room, to_z-of_z w32 _ f.sign, to_z-of_z w32 _ low, to_z-of_z w32 _ high)
     (three_words (ap (λ p. p.sign) (found (goal.at.returns c).After-take_apart-parts)) (ap pos (omega arith)) (ap pos (omega arith))))

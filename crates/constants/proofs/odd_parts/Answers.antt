@@ -37,23 +37,21 @@ loop-i-init c = (omega arith, refl)
 
 pub returns-then-top-parts : goal.returns-then-top-parts
 returns-then-top-parts c =
-    let s = c.before.before.before.before.before in
-    let b = s.args.b in
-    let ts = s.args.ts.now in
+    let b = c.args.b in
+    let ts = c.args.ts.now in
     sym
-    (s.loop-i.invariant.1
-    ∙ each_hit OddPart (small b) (pos 0) s.loop-i.i ts c.loop-i-test.true
-    (le-ltb _ _ (rw (odd_is (goal.at.returns-then-top-parts c).After-struct_known-1, power b s.requires.0) at c.if-top-parts.true)))
+    (c.loop-i.invariant.1
+    ∙ each_hit OddPart (small b) (pos 0) c.loop-i.i ts c.loop-i-test.true
+    (le-ltb _ _ (rw (odd_is (goal.at.returns-then-top-parts c).After-struct_known-1, power b c.requires.0) at c.if-top-parts.true)))
 
 pub loop-i-preserved : goal.loop-i-preserved
 loop-i-preserved c =
-    let s = c.before.before.before.before.before in
-    let b = s.args.b in
-    let ts = s.args.ts.now in (
+    let b = c.args.b in
+    let ts = c.args.ts.now in (
       omega arith,
-      s.loop-i.invariant.1
-          ∙ each_miss OddPart (small b) (pos 0) s.loop-i.i ts c.loop-i-test.true
-          (lt-ltb _ _ (rw (odd_is (goal.at.loop-i-preserved c).After-struct_known-1, power b s.requires.0) at c.if-top-parts.false)),
+      c.loop-i.invariant.1
+          ∙ each_miss OddPart (small b) (pos 0) c.loop-i.i ts c.loop-i-test.true
+          (lt-ltb _ _ (rw (odd_is (goal.at.loop-i-preserved c).After-struct_known-1, power b c.requires.0) at c.if-top-parts.false)),
     )
 
 pub returns : goal.returns

@@ -8,15 +8,12 @@ use Rattle.search.proofs.add.Goals as goal
 
 pub with_each-requires : goal.with_each-requires
 with_each-requires c =
-    let st = c.before.before.before in
-    let s = st.requires.0 in
-    (s.wide, s.values, st.requires.1)
+    let s = c.requires.0 in
+    (s.wide, s.values, c.requires.1)
 
 pub returns : goal.returns
 returns c =
-    let each = c.before.before.before.before.before.before in
-    let one = each.with_each.ensures in
+    let one = c.with_each.ensures in
     let two = c.side.ensures in
-    let st = each.before.before.before.before in
-    let a = st.args in
-    (two.long ∙ one.long, reach_more a.limit (take a.n a.ready.now) a.v st.requires.0.reach one two)
+    let a = c.args in
+    record { map_len_unchanged = two.long ∙ one.long; holds = reach_more a.limit (take a.n a.ready.now) a.v c.requires.0.reach one two }

@@ -13,8 +13,7 @@ returns-then-n-eq0 c =
 pub returns-then-m-power : goal.returns-then-m-power
 returns-then-m-power c =
     let o = c.odd_part-m in
-    let st = c.before.before.before.before.before in
-    mark_one st.args.limit st.args.map.now _ st.args.n o.result refl o.ensures (omega arith) (omega arith) st.requires.1
+    mark_one c.args.limit c.args.map.now _ c.args.n o.result refl o.ensures (omega arith) (omega arith) c.requires.1
 
 pub returns-else-m-power : goal.returns-else-m-power
 returns-else-m-power c =

@@ -7,7 +7,5 @@ use Rattle.search.proofs.pair.Goals as goal
 
 pub returns : goal.returns
 returns c =
-    let two = c.before.before in
-    let one = two.before.before.before.before in
-    let a = two.args in
-    adds_then one.side.ensures two.side-2.ensures (λ k. sym (one_op_is a.limit a.u a.v k))
+    let a = c.args in
+    adds_then c.side.ensures c.side-2.ensures (λ k. sym (one_op_is a.limit a.u a.v k))

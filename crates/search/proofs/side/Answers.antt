@@ -18,24 +18,18 @@ shape_of-map-then-w-far c = c.loop-l.invariant.3.long
 
 pub returns-then-w-far : goal.returns-then-w-far
 returns-then-w-far c =
-    let s = c.before.before.before in
-    let st = s.before.before.before in
-    side_past st.args.limit st.args.u st.args.v s.loop-l.l st.requires.1 st.requires.2 (omega (arith, c.loop-l-test.true))
-    (omega (arith, c.if-w-far.true, c.shifted-w.ensures, s.loop-l.invariant.2)) s.loop-l.invariant.3
+    side_past c.args.limit c.args.u c.args.v c.loop-l.l c.requires.1 c.requires.2 (omega (arith, c.loop-l-test.true))
+    (omega (arith, c.if-w-far.true, c.shifted-w.ensures, c.loop-l.invariant.2)) c.loop-l.invariant.3
 
 pub loop-l-preserved : goal.loop-l-preserved
 loop-l-preserved c =
-    let two = c.before.before in
-    let one = two.before.before.before.before.before in
-    let sh = one.before.before.before in
-    let s = sh.before.before in
-    let a = s.args in (
-      omega (arith, sh.loop-l-test.true),
+    let a = c.args in (
+      omega (arith, c.loop-l-test.true),
       refl,
-      s.loop-l.invariant.2,
-      side_more a.limit a.u a.v s.loop-l.l (a.u + sh.shifted-w.result) two.difference.result
-          (omega (arith, sh.shifted-w.ensures)) (omega (arith, sh.shifted-w.ensures, two.difference.ensures))
-          s.loop-l.invariant.3 one.mark.ensures two.mark-in-loop-l.ensures,
+      c.loop-l.invariant.2,
+      side_more a.limit a.u a.v c.loop-l.l (a.u + c.shifted-w.result) c.difference.result
+          (omega (arith, c.shifted-w.ensures)) (omega (arith, c.shifted-w.ensures, c.difference.ensures))
+          c.loop-l.invariant.3 c.mark.ensures c.mark-in-loop-l.ensures,
     )
 
 pub shape_of-map : goal.shape_of-map

@@ -16,17 +16,13 @@ loop-i-init c =
 
 pub pair-requires : goal.pair-requires
 pair-requires c =
-    let at = c.before.before.before in
-    let st = at.before.before.before in
-    let e : length at.loop-i.map ≡ length st.args.map.now = at.loop-i.invariant.1.long in
-    ((st.requires.0.0, omega (arith, st.requires.0.1)), st.requires.2, st.requires.1.1 at.loop-i.i (omega arith))
+    let e : length c.loop-i.map ≡ length c.args.map.now = c.loop-i.invariant.1.long in
+    ((c.requires.0.0, omega (arith, c.requires.0.1)), c.requires.2, c.requires.1.1 c.loop-i.i (omega arith))
 
 pub loop-i-preserved : goal.loop-i-preserved
 loop-i-preserved c =
-    let one = c.before.before in
-    let at = one.before.before.before.before in
-    let a = at.args in
-    (omega (arith, at), with_more a.limit a.v a.ready.now at.loop-i.i (omega (arith, at)) at.loop-i.invariant.1 one.pair.ensures)
+    let a = c.args in
+    (omega (arith, c), with_more a.limit a.v a.ready.now c.loop-i.i (omega (arith, c)) c.loop-i.invariant.1 c.pair.ensures)
 
 pub shape_of-map : goal.shape_of-map
 shape_of-map c = c.loop-i.invariant.1.long

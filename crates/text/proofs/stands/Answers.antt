@@ -22,8 +22,7 @@ bounds-text-i c = omega arith
 
 pub returns-then-s-at : goal.returns-then-s-at
 returns-then-s-at c =
-    let l = c.before.before.before.before in
-    sym (l.loop-i.invariant.1 ∙ stands_other _ _ _ _ l.loop-i-test.true (omega arith) c.if-s-at.true)
+    sym (c.loop-i.invariant.1 ∙ stands_other _ _ _ _ c.loop-i-test.true (omega arith) c.if-s-at.true)
 
 pub overflow_add-at : goal.overflow_add-at
 overflow_add-at c = omega arith
@@ -36,8 +35,7 @@ loop-i-smaller c = omega arith
 
 pub loop-i-preserved : goal.loop-i-preserved
 loop-i-preserved c =
-    let l = c.before.before.before.before in
-    (omega arith, l.loop-i.invariant.1 ∙ stands_more _ _ _ _ l.loop-i-test.true (omega arith) c.if-s-at.false)
+    (omega arith, c.loop-i.invariant.1 ∙ stands_more _ _ _ _ c.loop-i-test.true (omega arith) c.if-s-at.false)
 
 pub returns : goal.returns
 returns c = sym (c.loop-i.invariant.1 ∙ stands_end _ _ _ _ c.loop-i-test.false)

@@ -12,42 +12,34 @@ use Rattle.search.proofs.serving.choose.Goals.{After-last-end}
 -- the bound is not above 2 ^ limit, nor is that above 2 ^ 19
 bounds : (c : After-last-end) → let a = c.args in (2 * c.last-end.result ≤ 2 ^ a.limit) × (2 ^ a.limit ≤ 2 ^ 19)
 bounds c =
-    let st = c.before.before.before in
-    let h = half st.args.limit (some_bits st.args.limit st.args.c st.requires.1) in
-    (omega (arith, c.last-end.ensures), pow_mono {i = st.args.limit} {j = 19} st.requires.0.wide.0)
+    let h = half c.args.limit (some_bits c.args.limit c.args.c c.requires.1) in
+    (omega (arith, c.last-end.ensures), pow_mono {i = c.args.limit} {j = 19} c.requires.0.wide.0)
 
 pub last-end-requires : goal.last-end-requires
 last-end-requires c =
-    let st = c.before.before in
-    (some_bits st.args.limit st.args.c st.requires.1, st.requires.0.wide.0)
+    (some_bits c.args.limit c.args.c c.requires.1, c.requires.0.wide.0)
 
 pub overflow_mul-bound : goal.overflow_mul-bound
 overflow_mul-bound c = record { fits = omega (arith, bounds c) }
 
 pub least_partner-s-requires : goal.least_partner-s-requires
 least_partner-s-requires c =
-    let st = c.before.before.before in
-    record { wide = st.requires.0.wide; ready = st.requires.0.values; constant = st.requires.1; known = (bounds c).0 }
+    record { wide = c.requires.0.wide; ready = c.requires.0.values; constant = c.requires.1; known = (bounds c).0 }
 
 pub returns-then-s-bound : goal.returns-then-s-bound
 returns-then-s-bound c =
     let lp = c.least_partner-s in
-    let la = c.before.before in
-    let st = la.before.before.before in
-    let a = st.args in
-    choice_at a.limit a.map.now a.ready.now a.n a.c st.requires.0 st.requires.1 st.requires.2
-    a.ceiling la.last-end.result lp.result la.last-end.ensures lp.ensures c.if-s-bound.true
+    let a = c.args in
+    choice_at a.limit a.map.now a.ready.now a.n a.c c.requires.0 c.requires.1 c.requires.2
+    a.ceiling c.last-end.result lp.result c.last-end.ensures lp.ensures c.if-s-bound.true
 
 pub overflow_sub-tried : goal.overflow_sub-tried
 overflow_sub-tried c =
-    let la = c.before.before in
-    omega (arith, la.last-end.ensures, pow_pos (la.args.limit - 1))
+    omega (arith, c.last-end.ensures, pow_pos (c.args.limit - 1))
 
 pub returns : goal.returns
 returns c =
     let lp = c.least_partner-s in
-    let la = c.before.before in
-    let st = la.before.before.before in
-    let a = st.args in
-    choice_nothing a.limit a.map.now a.ready.now a.n a.c st.requires.0 st.requires.1 st.requires.2
-    a.ceiling la.last-end.result lp.result la.last-end.ensures lp.ensures c.if-s-bound.false
+    let a = c.args in
+    choice_nothing a.limit a.map.now a.ready.now a.n a.c c.requires.0 c.requires.1 c.requires.2
+    a.ceiling c.last-end.result lp.result c.last-end.ensures lp.ensures c.if-s-bound.false

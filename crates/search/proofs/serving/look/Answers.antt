@@ -12,11 +12,9 @@ returns-then-n-eq0 c = let a = c.args in look_none a.limit a.map.now a.low a.n c
 
 pub lower-requires : goal.lower-requires
 lower-requires c =
-    let st = c.before.before.before in
-    (ap (λ (x : ℕ). x % 2) c.odd_part.ensures ∙ zeros_left st.args.n (omega arith), omega (arith, st.requires.0.1, st.requires.1))
+    (ap (λ (x : ℕ). x % 2) c.odd_part.ensures ∙ zeros_left c.args.n (omega arith), omega (arith, c.requires.0.1, c.requires.1))
 
 pub returns : goal.returns
 returns c =
     let o = c.odd_part in
-    let st = c.before.before.before.before in
-    look_one st.args.limit st.args.map.now st.args.low st.args.n o.result o.ensures (omega arith) st.requires.1 c.lower.ensures
+    look_one c.args.limit c.args.map.now c.args.low c.args.n o.result o.ensures (omega arith) c.requires.1 c.lower.ensures

@@ -16,29 +16,24 @@ loop-i-init c =
 
 pub look_pair-least-requires : goal.look_pair-least-requires
 look_pair-least-requires c =
-    let at = c.before.before in
-    let st = at.before.before.before in
-    let p = st.requires in
+    let p = c.requires in
     record {
       wide = p.wide;
       first = p.constant;
-      second = p.ready.1 at.loop-i.i c.loop-i-test.true;
-      known = omega (arith, p.known, at.loop-i.invariant.1.least);
+      second = p.ready.1 c.loop-i.i c.loop-i-test.true;
+      known = omega (arith, p.known, c.loop-i.invariant.1.least);
     }
 
 pub loop-i-preserved : goal.loop-i-preserved
 loop-i-preserved c =
-    let at = c.before.before.before in
-    let st = at.before.before.before in
-    let a = st.args in
+    let a = c.args in
     let h = c.loop-i-test.true in (
       omega arith,
-      with_more a.limit a.c a.ready.now a.map.now a.low at.loop-i.i (omega (arith, st.requires.ready.0)) at.loop-i.invariant.1 c.look_pair-least.ensures,
+      with_more a.limit a.c a.ready.now a.map.now a.low c.loop-i.i (omega (arith, c.requires.ready.0)) c.loop-i.invariant.1 c.look_pair-least.ensures,
     )
 
 pub returns : goal.returns
 returns c =
-    let at = c.before in
-    let a = at.args in
-    let e : at.loop-i.i ≡ a.n = omega arith in
-    subst (λ (i : ℕ). Lowers a.map.now a.low (λ s. is_with a.limit a.c (take i a.ready.now) s) a.best at.loop-i.least) e at.loop-i.invariant.1
+    let a = c.args in
+    let e : c.loop-i.i ≡ a.n = omega arith in
+    subst (λ (i : ℕ). Lowers a.map.now a.low (λ s. is_with a.limit a.c (take i a.ready.now) s) a.best c.loop-i.least) e c.loop-i.invariant.1

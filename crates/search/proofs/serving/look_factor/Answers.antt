@@ -5,15 +5,12 @@ use Rattle.search.proofs.serving.look_factor.Goals as goal
 
 pub returns-then-c-f-ne0 : goal.returns-then-c-f-ne0
 returns-then-c-f-ne0 c =
-    let st = c.before.before in
-    factor_none st.args.c st.args.f st.requires.1 st.args.map.now st.args.low c.if-c-f-ne0.true
+    factor_none c.args.c c.args.f c.requires.1 c.args.map.now c.args.low c.if-c-f-ne0.true
 
 pub lower-requires : goal.lower-requires
 lower-requires c =
-    let st = c.before.before in
-    (factor_odd st.args.c st.args.f st.requires.1 st.requires.0 c.if-c-f-ne0.false, st.requires.2)
+    (factor_odd c.args.c c.args.f c.requires.1 c.requires.0 c.if-c-f-ne0.false, c.requires.2)
 
 pub returns : goal.returns
 returns c =
-    let st = c.before.before.before in
-    factor_one st.args.c st.args.f st.requires.1 st.args.map.now st.args.low c.if-c-f-ne0.false c.lower.ensures
+    factor_one c.args.c c.args.f c.requires.1 c.args.map.now c.args.low c.if-c-f-ne0.false c.lower.ensures

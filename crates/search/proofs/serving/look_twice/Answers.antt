@@ -18,31 +18,23 @@ overflow_sub-p c = omega (arith, c.power-p.ensures, power_two c.loop-l.l)
 
 pub look_factor-least-requires : goal.look_factor-least-requires
 look_factor-least-requires c =
-    let at = c.before.before in
-    let st = at.before.before in
-    (st.requires.1.0, omega (arith, c.power-p.ensures, power_two at.loop-l.l), omega (arith, st.requires, at.loop-l.invariant.2.least))
+    (c.requires.1.0, omega (arith, c.power-p.ensures, power_two c.loop-l.l), omega (arith, c.requires, c.loop-l.invariant.2.least))
 
 pub look_factor-least-requires-in-loop-l : goal.look_factor-least-requires-in-loop-l
 look_factor-least-requires-in-loop-l c =
-    let at = c.before.before.before in
-    let st = at.before.before in
-    (st.requires.1.0, omega arith, omega (arith, st.requires, at.loop-l.invariant.2.least, c.look_factor-least.ensures.least))
+    (c.requires.1.0, omega arith, omega (arith, c.requires, c.loop-l.invariant.2.least, c.look_factor-least.ensures.least))
 
 pub loop-l-preserved : goal.loop-l-preserved
 loop-l-preserved c =
-    let one = c.before in
-    let pw = one.before in
-    let at = pw.before.before in
-    let a = at.args in (
-      omega (arith, at),
+    let a = c.args in (
+      omega (arith, c),
       refl,
-      twice_more a.c a.map.now a.low at.loop-l.l _ _ (ap (λ (x : ℕ). x - 1) pw.power-p.ensures.0) (ap (λ (x : ℕ). x + 1) pw.power-p.ensures.0)
-          at.loop-l.invariant.2 one.look_factor-least.ensures c.look_factor-least-in-loop-l.ensures,
+      twice_more a.c a.map.now a.low c.loop-l.l _ _ (ap (λ (x : ℕ). x - 1) c.power-p.ensures.0) (ap (λ (x : ℕ). x + 1) c.power-p.ensures.0)
+          c.loop-l.invariant.2 c.look_factor-least.ensures c.look_factor-least-in-loop-l.ensures,
     )
 
 pub returns : goal.returns
 returns c =
-    let at = c.before in
-    let a = at.args in
-    let e : at.loop-l.l ≡ a.limit = omega arith in
-    subst (λ (l : ℕ). Lowers a.map.now a.low (λ s. is_twice l a.c s) a.best at.loop-l.least) e at.loop-l.invariant.2
+    let a = c.args in
+    let e : c.loop-l.l ≡ a.limit = omega arith in
+    subst (λ (l : ℕ). Lowers a.map.now a.low (λ s. is_twice l a.c s) a.best c.loop-l.least) e c.loop-l.invariant.2

@@ -12,9 +12,8 @@ returns-then-m-best c = let a = c.args in lower_great a.map.now a.low a.m a.best
 
 pub returns-then-reached : goal.returns-then-reached
 returns-then-reached c =
-    let st = c.before.before.before.before.before in
-    let a = st.args in
-    lower_hit a.map.now a.low a.m a.best st.requires.0 c.if-m-low.false c.if-m-best.false
+    let a = c.args in
+    lower_hit a.map.now a.low a.m a.best c.requires.0 c.if-m-low.false c.if-m-best.false
     (sym c.reached.ensures ∙ c.if-reached.true)
 
 pub returns : goal.returns

@@ -7,7 +7,6 @@ pub returns : goal.returns
 returns c =
     let lp = c.least_partner in
     let pw = c.power-bound in
-    let st = c.before.before.before.before in
-    let a = st.args in
-    served_is a.limit a.map.now a.ready.now a.n a.c st.requires.0 st.requires.1 st.requires.2
+    let a = c.args in
+    served_is a.limit a.map.now a.ready.now a.n a.c c.requires.0 c.requires.1 c.requires.2
     pw.result lp.result pw.ensures.0 lp.ensures

@@ -19,9 +19,8 @@ is_digit-requires c = tt
 
 pub returns-then-not-is_digit : goal.returns-then-not-is_digit
 returns-then-not-is_digit c =
-    let m = c.before.before.before in
     let d = sym c.is_digit.ensures ∙ c.if-not-is_digit.true in
-    let z = span_stop m.args.s.now m.loop-i-test.true d in
+    let z = span_stop c.args.s.now c.loop-i-test.true d in
     omega arith
 
 pub overflow_add-i : goal.overflow_add-i
@@ -32,9 +31,8 @@ loop-i-smaller c = omega arith
 
 pub loop-i-preserved : goal.loop-i-preserved
 loop-i-preserved c =
-    let m = c.before.before.before in
     let d = sym c.is_digit.ensures ∙ c.if-not-is_digit.false in
-    let z = span_more m.args.s.now m.loop-i-test.true d in
+    let z = span_more c.args.s.now c.loop-i-test.true d in
     omega arith
 
 pub returns : goal.returns

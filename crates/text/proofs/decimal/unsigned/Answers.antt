@@ -21,32 +21,27 @@ returns-then-k-eq0 c = sym (unsigned_none _ _ _ (sym (count (goal.at.returns-the
 
 pub returns-then-not-plain : goal.returns-then-not-plain
 returns-then-not-plain c =
-    let d = c.before.before.before.before in
-    let a = d.args in
+    let a = c.args in
     let e : is_plain (span (drop a.p a.s.now)) (get_or a.s.now a.p 0) ≡ false =
     rw (count (goal.at.returns-then-not-plain c).After-digits_end-e) at (sym c.plain.ensures ∙ c.if-not-plain.true) in
     sym (unsigned_bad _ _ _ e)
 
 pub returns-then-k-gt10 : goal.returns-then-k-gt10
 returns-then-k-gt10 c =
-    let b = c.before in
-    let d = b.before.before.before.before in
-    let a = d.args in
+    let a = c.args in
     let k = count (goal.at.returns-then-k-gt10 c).After-digits_end-e in
     let e : is_plain (span (drop a.p a.s.now)) (get_or a.s.now a.p 0) ≡ true =
-    rw (count (goal.at.returns-then-k-gt10 c).After-digits_end-e) at (sym b.plain.ensures ∙ b.if-not-plain.false) in
+    rw (count (goal.at.returns-then-k-gt10 c).After-digits_end-e) at (sym c.plain.ensures ∙ c.if-not-plain.false) in
     sym (unsigned_long _ _ _ (omega arith) (omega arith) e)
 
 pub returns : goal.returns
 returns c =
-    let b = c.before.before.before in
-    let d = b.before.before.before.before in
-    let a = d.args in
+    let a = c.args in
     let e : is_plain (span (drop a.p a.s.now)) (get_or a.s.now a.p 0) ≡ true =
-    rw (count (goal.at.returns c).After-digits_end-e) at (sym b.plain.ensures ∙ b.if-not-plain.false) in
+    rw (count (goal.at.returns c).After-digits_end-e) at (sym c.plain.ensures ∙ c.if-not-plain.false) in
     let k : ℕ = span (drop a.p a.s.now) in
-    let v = c.value_of_lem.ensures ∙ ap (λ (q : ℕ). value_of 0 (take q (drop a.p a.s.now))) (count (goal.at.returns c).After-digits_end-e) in
+    let v = c.value_of.ensures ∙ ap (λ (q : ℕ). value_of 0 (take q (drop a.p a.s.now))) (count (goal.at.returns c).After-digits_end-e) in
     c.ranged.ensures
-    ∙ ap (λ (x : ℕ). ranged a.negative x d.digits_end-e.result) v
-    ∙ ap (λ (q : ℕ). ranged a.negative (value_of 0 (take k (drop a.p a.s.now))) q) d.digits_end-e.ensures.0
+    ∙ ap (λ (x : ℕ). ranged a.negative x c.digits_end-e.result) v
+    ∙ ap (λ (q : ℕ). ranged a.negative (value_of 0 (take k (drop a.p a.s.now))) q) c.digits_end-e.ensures.0
     ∙ sym (unsigned_good _ _ _ e)

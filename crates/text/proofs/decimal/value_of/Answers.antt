@@ -57,15 +57,14 @@ loop-i-smaller c = omega arith
 
 pub loop-i-preserved : goal.loop-i-preserved
 loop-i-preserved c =
-    let m = c.before in
-    let s = m.args.s.now in
+    let s = c.args.s.now in
     let d = digit (goal.at.loop-i-preserved c).In-loop-i in
-    let z = span_more s {i = m.loop-i.i} (omega arith) (span_digit s (omega arith) (omega arith)) in (
+    let z = span_more s {i = c.loop-i.i} (omega arith) (span_digit s (omega arith) (omega arith)) in (
       omega arith,
       omega arith,
       omega arith,
-      one_more _ _ m.loop-i.invariant.0 m.loop-i.invariant.3 (omega arith),
-      m.loop-i.invariant.4 ∙ value_more s _ m.loop-i-test.true (omega arith),
+      one_more _ _ c.loop-i.invariant.0 c.loop-i.invariant.3 (omega arith),
+      c.loop-i.invariant.4 ∙ value_more s _ c.loop-i-test.true (omega arith),
     )
 
 pub returns : goal.returns

@@ -12,7 +12,7 @@ use Rattle.text.proofs.forms.line_at.Goals as goal
 use Rattle.text.proofs.forms.line_at.Goals.{After-taken-n}
 
 at_most_one : (c : After-taken-n) → c.taken-n.result ≤ 1
-at_most_one c = let l = c.before.before.before.before in rw c.taken-n.ensures (taken_most (get_or l.args.form.now l.loop-i.i 0))
+at_most_one c = rw c.taken-n.ensures (taken_most (get_or c.args.form.now c.loop-i.i 0))
 
 pub loop-i-init : goal.loop-i-init
 unfolding rest_of
@@ -23,13 +23,11 @@ overflow_add-n c = omega (arith, at_most_one c)
 
 pub loop-i-preserved : goal.loop-i-preserved
 loop-i-preserved c =
-    let t = c.before.before.before in
-    let l = t.before in
-    let a = l.args in (
+    let a = c.args in (
       omega arith,
       omega (arith, at_most_one c),
-      rw (c.taken-n.ensures, c.step-f.ensures) (l.loop-i.invariant.2 ∙ rest_more a.s.now a.form.now _ _ _ t.loop-i-test.true),
+      rw (c.taken-n.ensures, c.step-f.ensures) (c.loop-i.invariant.2 ∙ rest_more a.s.now a.form.now _ _ _ c.loop-i-test.true),
     )
 
 pub returns : goal.returns
-returns c = let l = c.before in let a = l.args in sym (l.loop.invariant.2 ∙ rest_end a.s.now a.form.now _ _ _ c.loop-i-test.false)
+returns c = let a = c.args in sym (c.loop-i.invariant.2 ∙ rest_end a.s.now a.form.now _ _ _ c.loop-i-test.false)

@@ -14,27 +14,22 @@ enum_told-1 c = search rules
 
 pub returns-in_default : goal.returns-in_default
 unfolding step_of
-returns-in_default c = rw c.enum_told-1.given.1 refl
+returns-in_default c = rw c.in_default.is refl
 
 pub returns-in_default-number : goal.returns-in_default-number
 unfolding step_of
 returns-in_default-number c =
-    let n = c.before.before.before in
-    let t = n.before in
-    c.none.ensures ∙ sym (rw (t.end-1.given.1, eq-eqb _ _ t.if-c-eq35.true, sym n.number.ensures ∙ c.enum_told-in_default-number-1.given.1) refl)
+    c.none.ensures ∙ sym (rw (c.in-At.is, eq-eqb _ _ c.if-c-eq35.true, sym c.number.ensures ∙ c.in_default-number.is) refl)
 
 pub returns-then-c-eq35 : goal.returns-then-c-eq35
 unfolding step_of
 returns-then-c-eq35 c =
-    let z = c.before.before in
-    let n = z.before.before in
-    let t = n.before in
     c.with.ensures
     ∙ sym (rw (
-      t.end-1.given.1,
-      eq-eqb _ _ t.if-c-eq35.true,
-      sym n.number.ensures ∙ z.z-1.given.1,
-      to_z-of_z w32 z.z-1.given.0.0 (record { sfits = c.known_told-in-Number-1.given.0.1 }),
+      c.in-At.is,
+      eq-eqb _ _ c.if-c-eq35.true,
+      sym c.number.ensures ∙ c.in-Number.is,
+      to_z-of_z w32 c.in-Number.z (search rules),
     ) refl)
 
 pub overflow_add-at : goal.overflow_add-at
@@ -43,13 +38,9 @@ overflow_add-at c = omega (arith, stands_within _ _ _ (sym c.is.ensures ∙ c.if
 pub returns-then-is : goal.returns-then-is
 unfolding step_of
 returns-then-is c =
-    let i = c.before.before in
-    let t = i.before in
-    c.moved.ensures ∙ sym (rw (t.end-1.given.1, ne_eqb _ _ t.if-c-eq35.false, sym i.is.ensures ∙ c.if-is.true) refl)
+    c.moved.ensures ∙ sym (rw (c.in-At.is, ne_eqb _ _ c.if-c-eq35.false, sym c.is.ensures ∙ c.if-is.true) refl)
 
 pub returns : goal.returns
 unfolding step_of
 returns c =
-    let i = c.before.before in
-    let t = i.before in
-    c.none-2.ensures ∙ sym (rw (t.end-1.given.1, ne_eqb _ _ t.if-c-eq35.false, sym i.is.ensures ∙ c.if-is.false) refl)
+    c.none-2.ensures ∙ sym (rw (c.in-At.is, ne_eqb _ _ c.if-c-eq35.false, sym c.is.ensures ∙ c.if-is.false) refl)
