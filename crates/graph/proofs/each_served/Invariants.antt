@@ -1,0 +1,28 @@
+use mathlib.Core.Path.{◌≡◌, refl, sym, ap, ◌∙◌}
+use mathlib.Core.Bool.{Bool, ◌||◌}
+use mathlib.Core.List.{List, []}
+use Prim.Native.Nat.{ℕ, ◌-◌, ◌≤◌}
+use native.Mathlib.Omega.{arith}
+use borrow.Author.Rules.{rules}
+use borrow.Author.Tests.{not-true, not-false}
+use lib.Dec.{leb}
+use lib.IntN.{ℤ, pos}
+use lib.ListN.{length, take, drop, get_or}
+use mir.Syntax.{w32}
+use mir.ValLaws.{to_z-of_z}
+use Rattle.meaning.specs.declared.Refusal.TheVariants.{Unserved}
+use Rattle.meaning.specs.Basics.{has}
+use Rattle.meaning.specs.Constants.{apart}
+use Rattle.meaning.specs.Graph.{is_served}
+use Rattle.meaning.specs.Refusals.{need_each}
+use Rattle.laws.proofs.Refusals.Members.{each_miss, each_hit, each_end}
+use Rattle.graph.proofs.each_served.Given as goal
+
+abbrev pub has_row : List ℕ → List ℤ → ℤ → Bool
+has_row values before t = is_served values t
+
+abbrev pub invariant-loop-i : goal.invariant-loop-i
+invariant-loop-i l = (l.i ≤ length l.ts) × (need_each Unserved (has_row l.values) [] l.ts ≡ need_each Unserved (has_row l.values) (take l.i l.ts) (drop l.i l.ts))
+
+abbrev pub decreases-loop-i : goal.decreases-loop-i
+decreases-loop-i l = length l.ts - l.i
