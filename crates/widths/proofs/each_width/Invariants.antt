@@ -1,0 +1,16 @@
+use mathlib.Core.Path.{◌≡◌, refl, ap₂, ◌∙◌}
+use mathlib.Core.List.{map}
+use Prim.Native.Nat.{◌-◌, ◌≤◌}
+use native.Mathlib.Omega.{arith}
+use borrow.Author.Rules.{rules}
+use lib.ListN.{length, take, set, length-set}
+use Rattle.meaning.specs.Basics.{over}
+use Rattle.meaning.specs.Widths.{row_width}
+use Rattle.laws.proofs.Lists.Over.{over_start, over_more, over_end}
+use Rattle.widths.proofs.each_width.Given as goal
+
+abbrev pub invariant-loop-i : goal.invariant-loop-i
+invariant-loop-i l = (l.i ≤ length l.values) × (length l.out ≡ length l.initial.out) × (l.out ≡ over (map (row_width l.input) (take l.i l.values)) l.initial.out)
+
+abbrev pub decreases-loop-i : goal.decreases-loop-i
+decreases-loop-i l = length l.values - l.i
