@@ -1,0 +1,12 @@
+use Prim.Native.Nat.{◌+◌, ◌-◌, ◌≤◌}
+use native.Mathlib.Omega.{arith}
+use borrow.Author.Rules.{rules}
+use Rattle.generator.specs.Search.{sign_choice, left_choice}
+use Rattle.generator.proofs.FirstChoice.{Going, going_on, going_hit, going_end, left_start}
+use Rattle.generator.proofs.first_choice.lefts.Given as goal
+
+abbrev pub invariant-loop-l : goal.invariant-loop-l
+invariant-loop-l l = (1 ≤ l.l) × (l.l ≤ l.p.limit + 1) × Going (λ k. sign_choice l.p k 0) (left_choice l.p) (l.p.limit + 1) l.l
+
+abbrev pub decreases-loop-l : goal.decreases-loop-l
+decreases-loop-l l = l.p.limit + 1 - l.l

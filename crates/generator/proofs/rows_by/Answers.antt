@@ -1,0 +1,75 @@
+-- `rows_by` meets its contract: all rows of the rule and their count. Assumes nothing.
+use mathlib.Core.Path.{◌≡◌, ap, ◌∙◌, subst⁻¹}
+use mathlib.Core.List.{List}
+use Prim.Native.Nat.{ℕ, ◌-◌, ◌≤◌}
+use native.Mathlib.Omega.{arith}
+use borrow.Author.Rules.{rules}
+use lib.ListN.{length}
+use Rattle.meaning.specs.Constants.{wanted}
+use Rattle.meaning.specs.Limits.{limit, most_rows}
+use Rattle.meaning.specs.Graph.{flat}
+use Rattle.meaning.specs.Basics.{over}
+use Rattle.meaning.specs.declared.Row.{Row}
+use Rattle.meaning.specs.Generator.{generated}
+use Rattle.laws.proofs.Refusals.Checked.{Admitted, admitted_of}
+use Rattle.laws.proofs.Constants.Wanted.{wanted_length}
+use Rattle.laws.proofs.Generator.Generated.{few_rows_lem, drawn_accepts}
+use Rattle.constants.specs.Held.{kept, wanted_held}
+use Rattle.constants.proofs.Insertion.{held_list, held_count, held_all}
+use Rattle.generator.specs.Rule.{AllServable, turned, Drawable}
+use Rattle.generator.proofs.Answers.{all_servable, told_rows, its_turns}
+use Rattle.generator.proofs.rows_by.Goals as goal
+use Rattle.generator.proofs.rows_by.Goals.{After-wanted_of, Start}
+
+good : (c : Start) → Admitted c.args.b c.args.ts.now
+good c = admitted_of _ _ c.requires.1
+
+-- the wanted set handed to `draw`: no target is left out
+holds : (c : After-wanted_of) → c.wanted_of.result ≡ wanted_held (wanted c.args.ts.now)
+holds c = held_all _ _ (good (goal.at.draw-set-requires c).Start).list.1 c.wanted_of.ensures
+
+its_list : (c : After-wanted_of) → kept c.wanted_of.result ≡ wanted c.args.ts.now
+its_list c = held_list _ _ (holds c)
+
+its_rows : (c : After-wanted_of) → let a = c.args in turned c.limit-limit.result (kept c.wanted_of.result) ≡ generated a.b a.ts.now
+its_rows c = ap (λ (L : ℕ). turned L (kept c.wanted_of.result)) c.limit-limit.ensures ∙ its_turns _ _ _ (its_list c)
+
+pub limit-limit-requires : goal.limit-limit-requires
+limit-limit-requires c = (good (goal.at.limit-limit-requires c).Start).bits.1
+
+-- the turns may begin, under the limit of b
+ready_for : (c : After-wanted_of) → let a = c.args in Drawable (limit a.b) a.map.now a.out.now (kept c.wanted_of.result)
+ready_for c =
+    let st = c in
+    let g = good (goal.at.draw-set-requires c).Start in
+    let h = g.bits in
+    record {
+      least = omega arith;
+      most = omega arith;
+      state = st.requires.0;
+      servable = subst⁻¹ (AllServable (limit st.args.b)) (its_list c) (all_servable _ _ g);
+      few = subst⁻¹ (λ (xs : List Row). length xs ≤ most_rows) (its_turns _ _ _ (its_list c)) (few_rows_lem _ _ st.requires.1);
+      words = st.requires.2;
+    }
+
+pub draw-set-requires : goal.draw-set-requires
+draw-set-requires c =
+    let st = c in
+    let a = st.args in (
+      subst⁻¹ (λ (L : ℕ). Drawable L a.map.now a.out.now (kept c.wanted_of.result)) c.limit-limit.ensures (ready_for c),
+      omega (arith, held_count _ _ (holds c), wanted_length a.ts.now, (good (goal.at.draw-set-requires c).Start).list),
+    )
+
+pub overflow_cast-result : goal.overflow_cast-result
+overflow_cast-result c =
+    omega (arith, c.draw-set.ensures.0, ap length (its_rows (goal.at.overflow_cast-result c).After-wanted_of), few_rows_lem _ _ c.requires.1)
+
+pub returns : goal.returns
+returns c =
+    let st = c in
+    let a = st.args in
+    let done =
+    told_rows a.b a.ts.now (length a.out.now) (c.draw-set.result.count - 1) _ _ (drawn_accepts _ _ _ st.requires.1 st.requires.2)
+    (omega (arith, c.draw-set.ensures.0, ap length (its_rows (goal.at.returns c).After-wanted_of)))
+    (c.draw-set.ensures.1 ∙ ap (λ (xs : List Row). over (flat xs) a.out.now) (its_rows (goal.at.returns c).After-wanted_of)) in
+    record { answers = done.answers; writes = done.writes }

@@ -1,0 +1,9 @@
+-- `nth` meets its contract. Assumes nothing.
+use mathlib.Core.Path.{sym}
+use lib.IntN.{pos}
+use lib.ListN.{get_or-eq_default}
+use borrow.Author.Rules.{rules}
+use Rattle.writing.proofs.nth.Goals as goal
+
+pub returns : goal.returns
+returns c = sym (get_or-eq_default c.args.numbers.now (pos 0) c.if-i-numbers.false)
