@@ -1,0 +1,124 @@
+-- `head_lines` meets its contract: five lines, one after the other. Assumes nothing.
+use mathlib.Core.Path.{◌≡◌, ap, ◌∙◌}
+use mathlib.Core.List.{List, [], ◌∷◌, ◌++◌}
+use Prim.Native.Nat.{ℕ, ◌+◌, ◌≤◌}
+use native.Mathlib.Omega.{arith}
+use lib.IntN.{ℤ, pos}
+use lib.ListN.{length}
+use mir.Syntax.{w32, w64}
+use mir.Val.{SFits, to_z, of_z}
+use mir.ValLaws.{to_z-of_z, to_z_pos}
+use borrow.Author.Rules.{rules}
+use Rattle.meaning.specs.Forms.{line_of, bits_form, input_form, report_text, adders_form, csd_form}
+use Rattle.meaning.specs.declared.Head.{Head}
+use Rattle.meaning.specs.Listing.{head_text}
+use Rattle.laws.proofs.Whole.Signed.{wide}
+use Rattle.writing.specs.Wrote.{Wrote}
+use Rattle.writing.proofs.Writing.{◌⨾◌, room, front_fits}
+use Rattle.listing.proofs.head.head_lines.Goals as goal
+use Rattle.listing.proofs.head.head_lines.Goals.{After-number_line-at, After-number_line-at-2, After-number_line-at-3, After-report-at, Start}
+
+-- the texts, up to each line
+abbrev bits : Head → List ℕ
+bits h = line_of bits_form (h.bits ∷ [])
+
+abbrev input : Head → List ℕ
+input h = bits h ++ line_of input_form (h.input ∷ [])
+
+abbrev order : Head → List ℕ
+order h = input h ++ report_text h.by_width
+
+abbrev adders : Head → ℕ → List ℕ
+adders h n = order h ++ line_of adders_form (pos n ∷ [])
+
+abbrev csd : Head → ℕ → ℕ → List ℕ
+csd h n k = adders h n ++ line_of csd_form (pos k ∷ [])
+
+-- there is room for each
+module _ (h : Head) (n k places : ℕ) (whole_fits : length (head_text h n k) ≤ places) where
+  fits5 : 0 + length (csd h n k) ≤ places
+  unfolding head_text
+  fits5 = omega arith
+
+  fits4 : 0 + length (adders h n) ≤ places
+  fits4 = front_fits 0 (adders h n) (line_of csd_form (pos k ∷ [])) fits5
+
+  fits3 : 0 + length (order h) ≤ places
+  fits3 = front_fits 0 (order h) (line_of adders_form (pos n ∷ [])) fits4
+
+  fits2 : 0 + length (input h) ≤ places
+  fits2 = front_fits 0 (input h) (report_text h.by_width) fits3
+
+  fits1 : 0 + length (bits h) ≤ places
+  fits1 = front_fits 0 (bits h) (line_of input_form (h.input ∷ [])) fits2
+
+-- the numbers, in 64 bits
+whole : (z : ℤ) → SFits w32 z → to_z w64 (of_z w64 (to_z w32 (of_z w32 z))) ≡ z
+whole z h = ap (λ (y : ℤ). to_z w64 (of_z w64 y)) (to_z-of_z w32 z h) ∙ to_z-of_z w64 z (wide z h)
+
+bits_fit : (f : Start) → SFits w32 f.args.head.bits
+bits_fit f = search rules
+
+input_fits : (f : Start) → SFits w32 f.args.head.input
+input_fits f = search rules
+
+adders_is : (f : Start) → to_z w64 f.args.adders ≡ pos f.args.adders
+adders_is f = to_z_pos w64 _ (omega (arith, f.requires.0))
+
+csd_is : (f : Start) → to_z w64 f.args.csd ≡ pos f.args.csd
+csd_is f = to_z_pos w64 _ (let h = f.ranges.csd.fits in omega arith)
+
+-- what is written up to each line
+wrote1 : (c : After-number_line-at) → Wrote c.args.out.now 0 (bits c.args.head) c.number_line-at.new.out c.number_line-at.result
+wrote1 c = let h : SFits w32 c.args.head.bits = search rules in rw (whole _ h) at c.number_line-at.ensures
+
+wrote2 : (c : After-number_line-at-2) → Wrote c.args.out.now 0 (bits c.args.head) c.number_line-at.new.out c.number_line-at.result
+    → Wrote c.args.out.now 0 (input c.args.head) c.number_line-at-2.new.out c.number_line-at-2.result
+wrote2 c w = let h : SFits w32 c.args.head.input = search rules in w ⨾ rw (whole _ h) at c.number_line-at-2.ensures
+
+wrote3 : (c : After-report-at) → Wrote c.args.out.now 0 (input c.args.head) c.number_line-at-2.new.out c.number_line-at-2.result
+    → Wrote c.args.out.now 0 (order c.args.head) c.report-at.new.out c.report-at.result
+wrote3 c w = w ⨾ c.report-at.ensures
+
+wrote4 : (c : After-number_line-at-3) → Wrote c.args.out.now 0 (order c.args.head) c.report-at.new.out c.report-at.result
+    → Wrote c.args.out.now 0 (adders c.args.head c.args.adders) c.number_line-at-3.new.out c.number_line-at-3.result
+wrote4 c w =
+    let e : to_z w64 c.args.adders ≡ pos c.args.adders = to_z_pos w64 _ (omega (arith, c.requires.0)) in
+    w ⨾ rw e at c.number_line-at-3.ensures
+
+pub overflow_cast-head : goal.overflow_cast-head
+overflow_cast-head c =
+    rw (to_z-of_z w32 _ (bits_fit (goal.at.overflow_cast-head c).Start)) (wide _ (bits_fit (goal.at.overflow_cast-head c).Start))
+
+pub number_line-at-requires : goal.number_line-at-requires
+number_line-at-requires c =
+    rw (whole _ (bits_fit (goal.at.number_line-at-requires c).Start)) (fits1 c.args.head c.args.adders c.args.csd _ c.requires.1)
+
+pub overflow_cast-head-2 : goal.overflow_cast-head-2
+overflow_cast-head-2 c =
+    rw (to_z-of_z w32 _ (input_fits (goal.at.overflow_cast-head-2 c).Start)) (wide _ (input_fits (goal.at.overflow_cast-head-2 c).Start))
+
+pub number_line-at-requires-2 : goal.number_line-at-requires-2
+number_line-at-requires-2 c =
+    rw (whole _ (input_fits (goal.at.number_line-at-requires-2 c).Start)) (room _ (wrote1 (goal.at.number_line-at-requires-2 c).After-number_line-at) (fits2 c.args.head c.args.adders c.args.csd _ c.requires.1))
+
+pub report-at-requires : goal.report-at-requires
+report-at-requires c = room _ (wrote2 (goal.at.report-at-requires c).After-number_line-at-2 (wrote1 (goal.at.report-at-requires c).After-number_line-at)) (fits3 c.args.head c.args.adders c.args.csd _ c.requires.1)
+
+pub number_line-at-requires-3 : goal.number_line-at-requires-3
+number_line-at-requires-3 c =
+    rw (adders_is (goal.at.number_line-at-requires-3 c).Start) (room _ (wrote3 (goal.at.number_line-at-requires-3 c).After-report-at (wrote2 (goal.at.number_line-at-requires-3 c).After-number_line-at-2 (wrote1 (goal.at.number_line-at-requires-3 c).After-number_line-at))) (fits4 c.args.head c.args.adders c.args.csd _ c.requires.1))
+
+pub overflow_cast-csd : goal.overflow_cast-csd
+overflow_cast-csd c =
+    let h = c.ranges.csd.fits in
+    record { sfits = omega arith }
+
+pub number_line-requires : goal.number_line-requires
+number_line-requires c =
+    rw (csd_is (goal.at.number_line-requires c).Start) (room _ (wrote4 (goal.at.number_line-requires c).After-number_line-at-3 (wrote3 (goal.at.number_line-requires c).After-report-at (wrote2 (goal.at.number_line-requires c).After-number_line-at-2 (wrote1 (goal.at.number_line-requires c).After-number_line-at)))) (fits5 c.args.head c.args.adders c.args.csd _ c.requires.1))
+
+pub returns : goal.returns
+unfolding head_text
+returns c =
+    (wrote4 (goal.at.returns c).After-number_line-at-3 (wrote3 (goal.at.returns c).After-report-at (wrote2 (goal.at.returns c).After-number_line-at-2 (wrote1 (goal.at.returns c).After-number_line-at)))) ⨾ rw (csd_is (goal.at.returns c).Start) at c.number_line.ensures
