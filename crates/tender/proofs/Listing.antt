@@ -70,8 +70,8 @@ count_lines done adders csd =
     ∙ line_with_lem (first ++ bytes "\n") (bytes "csd=" ∷ []) (pos csd ∷ []) tt
     ∙ ap (λ (l : List ℕ). l ++ text_of (pos csd) ++ bytes "\n") (append_assoc first (bytes "\n") (bytes "csd="))
 
-head_lines_lem : (h : Head) (adders csd : ℕ) → meant.headText h adders csd ≡ head_lines h adders csd
-unfolding meant.headText
+head_lines_lem : (h : Head) (adders csd : ℕ) → meant.head_text h adders csd ≡ head_lines h adders csd
+unfolding meant.head_text
 head_lines_lem h adders csd =
     let front : List ℕ = bits_line h.bits ++ input_line h.input ++ report_line h.by_width in
     ap (λ (l : List ℕ). l ++ line_of adders_form (pos adders ∷ []) ++ line_of csd_form (pos csd ∷ []))
@@ -79,19 +79,19 @@ head_lines_lem h adders csd =
     ∙ count_lines front adders csd
 
 -- a row's line: its width is w more than for an input of no bits
-row_line_lem : (w i : ℕ) (x : Row) → line_of row_form (meant.rowNumbers (pos w) i x) ≡ row_line i x (row_width w x.value)
-unfolding meant.rowNumbers
+row_line_lem : (w i : ℕ) (x : Row) → line_of row_form (meant.row_numbers (pos w) i x) ≡ row_line i x (row_width w x.value)
+unfolding meant.row_numbers
 row_line_lem w i x =
     line_with_lem [] (bytes "row=" ∷ bytes " u=" ∷ bytes " v=" ∷ bytes " l1=" ∷ bytes " l2=" ∷ bytes " s=" ∷ bytes " r=" ∷ bytes " value=" ∷ bytes " width=" ∷ [])
-    (meant.rowNumbers (pos w) i x) tt
+    (meant.row_numbers (pos w) i x) tt
     ∙ ap (row_line i x) (omega arith)
 
 row_lines_lem : (w : ℕ) (xs : List Row) (order : List ℕ) → lines_of row_form (meant.rows_by (pos w) xs order) ≡ row_lines w xs order
 unfolding lines_of
 row_lines_lem w xs [] = refl
-row_lines_lem w xs (i ∷ order) = ap₂ ◌++◌ (row_line_lem w i (meant.nthRow xs i)) (row_lines_lem w xs order)
+row_lines_lem w xs (i ∷ order) = ap₂ ◌++◌ (row_line_lem w i (meant.nth_row xs i)) (row_lines_lem w xs order)
 
-out_width_lem : (w : ℕ) (t : ℤ) → meant.outWidth (pos w) t ≡ pos (output_width w t)
+out_width_lem : (w : ℕ) (t : ℤ) → meant.out_width (pos w) t ≡ pos (output_width w t)
 out_width_lem w t = go (eqb (nat_abs t) 0)
   where
     go : (b : Bool) → cond b (pos 1) (pos w +ℤ pos (cond b 1 (0 + extra_bits (nat_abs t)))) ≡ pos (cond b 1 (w + extra_bits (nat_abs t)))
@@ -99,15 +99,15 @@ out_width_lem w t = go (eqb (nat_abs t) 0)
     go false = ap pos (omega arith)
 
 out_line_lem : (w : ℕ) (vals : List ℕ) (k : ℕ) (t : ℤ)
-    → line_of out_form (meant.outNumbers (pos w) vals k t) ≡ out_line k (output_index vals (odd_of t)) (shift_of t) (sign_of t) (output_width w t)
-unfolding meant.outNumbers
+    → line_of out_form (meant.out_numbers (pos w) vals k t) ≡ out_line k (output_index vals (odd_of t)) (shift_of t) (sign_of t) (output_width w t)
+unfolding meant.out_numbers
 out_line_lem w vals k t =
-    line_with_lem [] (bytes "out=" ∷ bytes " row=" ∷ bytes " shift=" ∷ bytes " sign=" ∷ bytes " width=" ∷ []) (meant.outNumbers (pos w) vals k t) tt
+    line_with_lem [] (bytes "out=" ∷ bytes " row=" ∷ bytes " shift=" ∷ bytes " sign=" ∷ bytes " width=" ∷ []) (meant.out_numbers (pos w) vals k t) tt
     ∙ ap (λ (z : ℤ). bytes "out=" ++ text_of (pos k) ++ bytes " row=" ++ text_of (pos (output_index vals (odd_of t))) ++ bytes " shift=" ++ text_of (pos (shift_of t)) ++ bytes " sign="
     ++ text_of (sign_of t) ++ bytes " width=" ++ text_of z ++ bytes "\n") (out_width_lem w t)
 
-out_lines_lem : (w : ℕ) (xs : List Row) (k : ℕ) (ts : List ℤ) → lines_of out_form (meant.outsFrom (pos w) (values xs) k ts) ≡ out_lines w xs k ts
-unfolding lines_of meant.outsFrom
+out_lines_lem : (w : ℕ) (xs : List Row) (k : ℕ) (ts : List ℤ) → lines_of out_form (meant.outs_from (pos w) (values xs) k ts) ≡ out_lines w xs k ts
+unfolding lines_of meant.outs_from
 out_lines_lem w xs k [] = refl
 out_lines_lem w xs k (t ∷ ts) = ap₂ ◌++◌ (out_line_lem w (values xs) k t) (out_lines_lem w xs (suc k) ts)
 
@@ -115,18 +115,18 @@ out_lines_lem w xs k (t ∷ ts) = ap₂ ◌++◌ (out_line_lem w (values xs) k t
 
 -- of a job whose input width is not negative, as it is where 9 does not refuse it
 pub listing_is : (j : Asked) (w : ℕ) → j.head.input ≡ pos w → meant.listing j ≡ listing_for j
-unfolding meant.listing meant.listingOf
+unfolding meant.listing meant.listing_of
 listing_is j w e =
     let xs : List Row = rows_of j in
-    let order : List ℕ = meant.rowOrder j.head.by_width (values xs) in
+    let order : List ℕ = meant.row_order j.head.by_width (values xs) in
     let back : w ≡ input_of j.head = sym (ap natural e) in
     ap₂ ◌++◌
     (ap₂ ◌++◌ (head_lines_lem j.head (length xs) (csd_sum (wanted j.targets)) ∙ ap (head_lines j.head (length xs)) (sum_is (wanted j.targets)))
     (ap (λ (z : ℤ). lines_of row_form (meant.rows_by z xs order)) e ∙ row_lines_lem w xs order ∙ ap (λ (n : ℕ). row_lines n xs order) back))
-    (ap (λ (z : ℤ). lines_of out_form (meant.outsFrom z (values xs) 1 j.targets)) e ∙ out_lines_lem w xs 1 j.targets ∙ ap (λ (n : ℕ). out_lines n xs 1 j.targets) back)
+    (ap (λ (z : ℤ). lines_of out_form (meant.outs_from z (values xs) 1 j.targets)) e ∙ out_lines_lem w xs 1 j.targets ∙ ap (λ (n : ℕ). out_lines n xs 1 j.targets) back)
 
-pub refused_is : (why : Refusal) → meant.refusedLine why ≡ refused_line (number why) (place_of why)
-unfolding meant.refusedLine
+pub refused_is : (why : Refusal) → meant.refused_line why ≡ refused_line (number why) (place_of why)
+unfolding meant.refused_line
 refused_is why = line_with_lem [] (bytes "refused=" ∷ bytes " place=" ∷ []) (pos (number why) ∷ pos (place_of why) ∷ []) tt
 
 -- ---- what is printed for a text
@@ -136,30 +136,30 @@ input_is : (z : ℤ) → input_width (natural z) ≡ Accepted → z ≡ pos (nat
 input_is z e = sym (positive z (omega (arith, leb→le 2 (natural z) (need_accepts no.Width (width_tests (natural z)) e).0)))
 
 module _ (s : List ℕ) where
-  told_text : (j : Asked) (a : Answer) → job_of s ≡ asks j → first_of (job_order j) ≡ a → meant.jobText s ≡ meant.orRefused a (meant.listing j)
+  told_text : (j : Asked) (a : Answer) → job_of s ≡ asks j → first_of (job_order j) ≡ a → meant.job_text s ≡ meant.or_refused a (meant.listing j)
   told_text j a e f = asked_text s j e ∙ reply_by j a f
 
-  pub listed_text : (j : Asked) → job_of s ≡ asks j → first_of (job_order j) ≡ Accepted → meant.jobText s ≡ listing_for j
+  pub listed_text : (j : Asked) → job_of s ≡ asks j → first_of (job_order j) ≡ Accepted → meant.job_text s ≡ listing_for j
   listed_text j e f =
       told_text j Accepted e f ∙ listing_is j (input_of j.head) (input_is j.head.input (first_accepts (job_order j) f).1.1.1.1.0)
 
-  pub refused_text : (j : Asked) (why : Refusal) → job_of s ≡ asks j → first_of (job_order j) ≡ Refused why → meant.jobText s ≡ refused_line (number why) (place_of why)
+  pub refused_text : (j : Asked) (why : Refusal) → job_of s ≡ asks j → first_of (job_order j) ≡ Refused why → meant.job_text s ≡ refused_line (number why) (place_of why)
   refused_text j why e f = told_text j (Refused why) e f ∙ refused_is why
 
-  pub malformed_text : (p : ℕ) → job_of s ≡ malformed p → meant.jobText s ≡ refused_line 12 p
-  malformed_text p e = law.malformed-text s p e ∙ refused_is (no.Job p)
+  pub malformed_text : (p : ℕ) → job_of s ≡ malformed p → meant.job_text s ≡ refused_line 12 p
+  malformed_text p e = law.malformed_text s p e ∙ refused_is (no.Job p)
 
-  pub text_fits : length (meant.jobText s) ≤ 8769
+  pub text_fits : length (meant.job_text s) ≤ 8769
   text_fits = text_room_lem s
 
 -- ---- the order of the row lines
 
-pub rows_once : (by_width : Bool) (xs : List Row) → Permᴰ (meant.rowOrder by_width (values xs)) (up_from 1 (length xs))
-rows_once by_width xs = subst (λ n. Permᴰ (meant.rowOrder by_width (values xs)) (up_from 1 n)) (length_values xs) (order_permutes by_width (values xs))
+pub rows_once : (by_width : Bool) (xs : List Row) → Permᴰ (meant.row_order by_width (values xs)) (up_from 1 (length xs))
+rows_once by_width xs = subst (λ n. Permᴰ (meant.row_order by_width (values xs)) (up_from 1 n)) (length_values xs) (order_permutes by_width (values xs))
 
-pub rows_by_width : (w : ℕ) (xs : List Row) → WidestFirst (λ k. row_width w (value_at xs k)) (meant.rowOrder true (values xs))
+pub rows_by_width : (w : ℕ) (xs : List Row) → WidestFirst (λ k. row_width w (value_at xs k)) (meant.row_order true (values xs))
 rows_by_width w xs =
-    in_order_by _ _ (meant.rowOrder true (values xs))
+    in_order_by _ _ (meant.row_order true (values xs))
     (λ k i. same k (up_in 1 (length xs) k (perm_in (rows_once true xs) k i)))
     (subst (InOrder (λ k. get_or (map (row_width w) (values xs)) (k - 1) 0)) (ranking_any w (values xs)) (ranking_ordered w (values xs)))
   where
@@ -169,7 +169,7 @@ rows_by_width w xs =
         ap (λ i. get_or (map (row_width w) (values xs)) i 0) (let e : suc k - 1 ≡ k = omega arith in e)
         ∙ at_map (row_width w) (values xs) k 0 0 (omega (arith, length_values xs, h.1))
 
-pub rows_by_number : (xs : List Row) → meant.rowOrder false (values xs) ≡ up_from 1 (length xs)
+pub rows_by_number : (xs : List Row) → meant.row_order false (values xs) ≡ up_from 1 (length xs)
 rows_by_number xs = ap (up_from 1) (length_values xs)
 
 -- ---- the widths
