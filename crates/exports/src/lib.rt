@@ -11,8 +11,7 @@ ghost use Rattle.exports.specs.Codes.{coded, drawn_code, far_code, printed_code,
 use meaning::Answer;
 
 // The rows of the generator's rule over the front of words; answers how many they are.
-#[unsafe(no_mangle)]
-pub extern "C" fn tauwaage_generate(bits: u32, targets: &[i32], words: &mut [u32]) -> i64
+pub fn tauwaage_generate(bits: u32, targets: &[i32], words: &mut [u32]) -> i64
     ensures { Coded (λ a. Generates bits targets.now a words.old words.new) drawn_code result }
 {
     let drawn = generator::generate(bits, targets, words);
@@ -20,16 +19,14 @@ pub extern "C" fn tauwaage_generate(bits: u32, targets: &[i32], words: &mut [u32
 }
 
 // Checks any graph; answers 0.
-#[unsafe(no_mangle)]
-pub extern "C" fn tauwaage_check(bits: u32, targets: &[i32], rows: usize, words: &[u32]) -> i64
+pub fn tauwaage_check(bits: u32, targets: &[i32], rows: usize, words: &[u32]) -> i64
     ensures { Coded (λ a. Checks bits targets.now rows words.now a) (λ a. coded a 0) result }
 {
     codes::of_answer(graph::check(bits, targets, rows, words), 0)
 }
 
 // A product for each target over the front of out; answers how many they are.
-#[unsafe(no_mangle)]
-pub extern "C" fn tauwaage_products(
+pub fn tauwaage_products(
     bits: u32,
     targets: &[i32],
     rows: usize,
@@ -44,8 +41,7 @@ pub extern "C" fn tauwaage_products(
 }
 
 // The widths of the rows and then of the outputs over the front of out; answers how many they are.
-#[unsafe(no_mangle)]
-pub extern "C" fn tauwaage_widths(
+pub fn tauwaage_widths(
     bits: u32,
     targets: &[i32],
     rows: usize,
@@ -64,8 +60,7 @@ pub extern "C" fn tauwaage_widths(
 }
 
 // The row numbers, widest first, over the front of out; answers how many they are.
-#[unsafe(no_mangle)]
-pub extern "C" fn tauwaage_ranking(
+pub fn tauwaage_ranking(
     bits: u32,
     targets: &[i32],
     rows: usize,
@@ -80,16 +75,14 @@ pub extern "C" fn tauwaage_ranking(
 }
 
 // How far a constant is from a ready list: 0, 1, 2, and 3 for beyond.
-#[unsafe(no_mangle)]
-pub extern "C" fn tauwaage_distance(bits: u32, ready: &[u32], target: u32) -> i64
+pub fn tauwaage_distance(bits: u32, ready: &[u32], target: u32) -> i64
     ensures { Coded (λ a. Distances bits ready.now target a) far_code result }
 {
     codes::of_far(distance::distance(bits, ready, target))
 }
 
 // A job's listing, or the line of its refusal, over the front of out; answers its bytes.
-#[unsafe(no_mangle)]
-pub extern "C" fn tauwaage_job(text: &[u8], out: &mut [u8]) -> i64
+pub fn tauwaage_job(text: &[u8], out: &mut [u8]) -> i64
     ensures { Coded (λ a. Prints text.now a out.old out.new) printed_code result }
 {
     let printed = reply::answer(text, out);
@@ -97,8 +90,7 @@ pub extern "C" fn tauwaage_job(text: &[u8], out: &mut [u8]) -> i64
 }
 
 // A constant taken apart: sign, shift and odd part over the front of out; answers 3.
-#[unsafe(no_mangle)]
-pub extern "C" fn tauwaage_apart(constant: i32, out: &mut [i32]) -> i64
+pub fn tauwaage_apart(constant: i32, out: &mut [i32]) -> i64
     ensures { Coded (λ a. TakesApart constant a out.old out.new) (λ a. coded a 3) result }
 {
     let answer = constants::apart_to(constant, out);
@@ -106,8 +98,7 @@ pub extern "C" fn tauwaage_apart(constant: i32, out: &mut [i32]) -> i64
 }
 
 // A constant's canonic form, the places of its digits 1 and of its digits -1, over the front of out; answers how many there are.
-#[unsafe(no_mangle)]
-pub extern "C" fn tauwaage_canonic(constant: i32, out: &mut [u32]) -> i64
+pub fn tauwaage_canonic(constant: i32, out: &mut [u32]) -> i64
     ensures { Coded (λ a. WritesForm constant a out.old out.new) formed_code result }
 {
     let formed = digits::canonic_to(constant, out);
