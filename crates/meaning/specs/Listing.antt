@@ -15,7 +15,6 @@ use Rattle.meaning.specs.Digits.{csd_sum}
 use Rattle.meaning.specs.Graph.{words, row_at, rows, values, output_index}
 use Rattle.meaning.specs.Widths.{row_width, output_width, ranking}
 use Rattle.meaning.specs.Refusals.{number, place_of, first_of}
-use Rattle.meaning.specs.Text.{bytes}
 use Rattle.meaning.specs.Forms.{line_of, lines_of, bits_form, input_form, report_text, adders_form, csd_form, row_form, out_form, refused_form}
 use Rattle.meaning.specs.Job.{Asked, Job, asks, malformed, job_of, job_order, rows_of}
 

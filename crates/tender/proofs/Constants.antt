@@ -9,7 +9,6 @@ use lib.ListN.{length, get_or, drop}
 use Rattle.meaning.specs.declared.Answer.{Answer}
 use Rattle.meaning.specs.declared.Answer.TheVariants.{Accepted, Refused}
 use Rattle.meaning.specs.declared.Formed.TheVariants as formed
-use Rattle.meaning.specs.declared.Refusal.TheVariants as no
 use Rattle.meaning.specs.Basics.{over, zeros_in, zeros}
 use Rattle.meaning.specs.Constants.{sign_of, shift_of, odd_of, apart, part_words}
 use Rattle.meaning.specs.Digits.{Digit, minus, none, plus, is_nonzero, nonzeros, Sparse, canonic, form_of, plus_places, minus_places, form_words}

@@ -1,24 +1,16 @@
 -- `odd_parts` meets its contract. The loop's invariant: the answer for the list is the answer for what is left of it. Assumes nothing.
 use mathlib.Core.Path.{◌≡◌, refl, sym, ap, ◌∙◌}
-use mathlib.Core.Bool.{Bool}
-use mathlib.Core.List.{List}
-use Prim.Native.Nat.{ℕ, ◌*◌, ◌-◌, ◌%◌, ◌^◌, ◌≤◌}
+use Prim.Native.Nat.{ℕ, ◌*◌, ◌%◌, ◌^◌, ◌≤◌}
 use native.Mathlib.Omega.{arith}
-use borrow.Author.Rules.{rules}
 use borrow.Author.Tests.{lt-ltb, le-ltb}
-use lib.Dec.{ltb}
-use lib.IntN.{ℤ, pos}
-use lib.ListN.{length, take, drop, get_or}
+use lib.IntN.{pos}
+use lib.ListN.{get_or}
 use lib.Pow.{shl_exact}
 use mir.Syntax.{w32}
 use mir.ValLaws.{to_z-of_z}
 use Rattle.meaning.specs.declared.Refusal.TheVariants.{OddPart}
 use Rattle.meaning.specs.Constants.{odd_of, apart}
-use Rattle.meaning.specs.Refusals.{need_each, odd_parts}
 use Rattle.laws.proofs.Refusals.Members.{each_miss, each_hit, each_end}
-use Rattle.constants.proofs.odd_parts.Reads as reads
-use Rattle.constants.proofs.odd_parts.Lts as lts
-use Rattle.constants.proofs.take_apart.Reads as take-apart-reads
 use Rattle.constants.proofs.odd_parts.Invariants.{small}
 use Rattle.constants.proofs.odd_parts.Goals as goal
 use Rattle.constants.proofs.odd_parts.Goals.{After-struct_known-1}

@@ -2,7 +2,6 @@
 use mathlib.Core.Path.{◌≡◌, ◌∙◌, sym, ap}
 use Prim.Native.Nat.{◌<◌, ◌^◌}
 use native.Mathlib.Omega.{arith}
-use borrow.Author.Rules.{rules}
 use lib.IntN.{pos, negsuc, nat_abs}
 use mir.Syntax.{w32}
 use mir.ValLaws.{to_z-of_z}

@@ -4,9 +4,8 @@ use Prim.Native.Nat.{◌<◌, ◌≤◌, ◌^◌}
 use native.Mathlib.Omega.{arith}
 use Rattle.meaning.specs.Basics.{zeros}
 use Rattle.laws.proofs.Whole.Zeros.{machine_is}
-use Rattle.digits.specs.Held.{odd_part, near}
+use Rattle.digits.specs.Held.{odd_part}
 use Rattle.digits.proofs.Laws.{odd_word, near_positive, near_most, last_is}
-use borrow.Author.Rules.{rules}
 use Rattle.digits.proofs.last_prefix.Goals as goal
 use Rattle.digits.proofs.last_prefix.Goals.{After-near-m}
 

@@ -1,10 +1,9 @@
 -- `digits::minus_places` meets its contract. The loop's invariant: the word so far, and the word of what is left `power` times as high, make that of n.
 -- What is left falls. Assumes nothing.
 use native.Mathlib.Omega.{arith}
-use borrow.Author.Rules.{rules}
 use Rattle.laws.proofs.Digits.Canonic.{above_less}
 use Rattle.laws.proofs.Digits.Places.{minus_half}
-use Rattle.digits.proofs.FormWords.{Adding, Turn, add_step, add_low, add_end}
+use Rattle.digits.proofs.FormWords.{Turn, add_step, add_low, add_end}
 use Rattle.digits.proofs.minus_places.Goals as goal
 use Rattle.digits.proofs.minus_places.Goals.{After-sign}
 

@@ -1,9 +1,7 @@
 -- `digits::nonzero_digits` meets its contract. The loop's invariant: the count and the nonzero digits of what is left make those of n.
 -- What is left falls. Assumes nothing.
 use mathlib.Core.Path.{◌≡◌, ap}
-use Prim.Native.Nat.{◌+◌, ◌≤◌}
 use native.Mathlib.Omega.{arith}
-use borrow.Author.Rules.{rules}
 use Rattle.meaning.specs.Digits.{canonic, nonzeros}
 use Rattle.laws.proofs.Digits.Canonic.{above_less}
 use Rattle.laws.proofs.Digits.Count.{nonzeros_zero, nonzeros_step, few_seventeen}

@@ -1,10 +1,6 @@
-use mathlib.Core.Path.{◌≡◌, ap}
+use mathlib.Core.Path.{◌≡◌}
 use Prim.Native.Nat.{◌+◌, ◌≤◌}
-use native.Mathlib.Omega.{arith}
-use borrow.Author.Rules.{rules}
 use Rattle.meaning.specs.Digits.{canonic, nonzeros}
-use Rattle.laws.proofs.Digits.Canonic.{above_less}
-use Rattle.laws.proofs.Digits.Count.{nonzeros_zero, nonzeros_step, few_seventeen}
 use Rattle.digits.proofs.nonzero_digits.Given as goal
 
 abbrev pub invariant-loop-left : goal.invariant-loop-left

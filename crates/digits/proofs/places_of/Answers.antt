@@ -1,6 +1,5 @@
 -- `digits::places_of` meets its contract: the words of the magnitude, exchanged where t is negative. Assumes nothing.
 use native.Mathlib.Omega.{arith}
-use borrow.Author.Rules.{rules}
 use mir.Syntax.{w32}
 use mir.ValLaws.{to_z-of_z}
 use Rattle.digits.proofs.FormWords.{Found, found_fits, found_above, found_below, words_held}

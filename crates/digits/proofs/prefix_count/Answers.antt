@@ -1,7 +1,6 @@
 -- `digits::prefix_count` meets its contract: the prefixes are one fewer than the nonzero digits. Assumes nothing.
 use native.Mathlib.Omega.{arith}
 use Rattle.laws.proofs.Digits.Chain.{length_prefixes}
-use borrow.Author.Rules.{rules}
 use Rattle.digits.proofs.prefix_count.Goals as goal
 
 pub returns-then-digits-eq0 : goal.returns-then-digits-eq0

@@ -1,8 +1,7 @@
 -- `digits::prefixes_of` meets its contract. The loop's invariant: the array holds the prefixes from `at` on, and those of what is left belong below.
 -- The place falls. Assumes nothing.
 use native.Mathlib.Omega.{arith}
-use borrow.Author.Rules.{rules}
-use Rattle.digits.proofs.Laws.{odd_le, Filling, fill_start, fill_high, fill_step, fill_end}
+use Rattle.digits.proofs.Laws.{odd_le, fill_start, fill_high, fill_step, fill_end}
 use Rattle.digits.proofs.prefixes_of.Goals as goal
 
 pub overflow_cast-left : goal.overflow_cast-left

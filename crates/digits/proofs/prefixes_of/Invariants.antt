@@ -1,6 +1,4 @@
-use native.Mathlib.Omega.{arith}
-use borrow.Author.Rules.{rules}
-use Rattle.digits.proofs.Laws.{odd_le, Filling, fill_start, fill_high, fill_step, fill_end}
+use Rattle.digits.proofs.Laws.{Filling}
 use Rattle.digits.proofs.prefixes_of.Given as goal
 
 abbrev pub invariant-loop-at : goal.invariant-loop-at

@@ -1,7 +1,6 @@
 -- `beyond_zero` meets its contract: each map of zeros has a byte for each odd number, and is that of no value. Assumes nothing.
 use mathlib.Core.Path.{sym, ◌∙◌}
 use native.Mathlib.Omega.{arith}
-use borrow.Author.Rules.{rules}
 use lib.Dec.{leb→le}
 use Rattle.laws.proofs.Lists.Tests.{T_of}
 use Rattle.search.specs.Marks.{short_limit, long_limit}

@@ -1,9 +1,8 @@
 -- `fill` meets its contract. The loop's invariant: the map holds what one operation on the values passed reaches. Assumes nothing.
 use mathlib.Core.Path.{◌≡◌, refl, ◌∙◌, subst}
 use mathlib.Core.List.{List}
-use Prim.Native.Nat.{ℕ, ◌+◌, ◌-◌}
+use Prim.Native.Nat.{ℕ, ◌+◌}
 use native.Mathlib.Omega.{arith}
-use borrow.Author.Rules.{rules}
 use lib.ListN.{length, get_or}
 use lib.Seq.{set-get_or}
 use Rattle.search.specs.Marks.{State}

@@ -1,7 +1,7 @@
 -- `draw` meets its contract: turn after turn, as many as there are constants. Assumes nothing.
 use mathlib.Core.Path.{◌≡◌, refl, ◌∙◌, subst, subst⁻¹}
 use mathlib.Core.List.{List}
-use Prim.Native.Nat.{ℕ, ◌-◌, ◌≤◌, ◌<◌}
+use Prim.Native.Nat.{ℕ, ◌<◌}
 use native.Mathlib.Omega.{arith}
 use borrow.Author.Rules.{rules}
 use lib.ListN.{length, length-take}
@@ -15,7 +15,7 @@ use Rattle.generator.proofs.RemainingLaws.{few_left}
 use Rattle.search.specs.Held.{listed}
 use Rattle.generator.specs.Growth.{drawn_rows, Open, Grown}
 use Rattle.generator.specs.Rule.{AllServable}
-use Rattle.generator.proofs.Turns.{started_open, Turned, turned_start, turned_open, turned_more, turned_end, from_front}
+use Rattle.generator.proofs.Turns.{started_open, turned_start, turned_open, turned_more, turned_end, from_front}
 use Rattle.generator.proofs.draw.Goals as goal
 use Rattle.generator.proofs.draw.Goals.{After-start-set, In-loop-k, Start}
 

@@ -3,7 +3,6 @@ use mathlib.Core.Path.{◌≡◌, ap, ◌∙◌, subst⁻¹}
 use mathlib.Core.List.{List}
 use Prim.Native.Nat.{ℕ, ◌-◌, ◌≤◌}
 use native.Mathlib.Omega.{arith}
-use borrow.Author.Rules.{rules}
 use lib.ListN.{length}
 use Rattle.meaning.specs.Constants.{wanted}
 use Rattle.meaning.specs.Limits.{limit, most_rows}

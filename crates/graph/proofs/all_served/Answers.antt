@@ -1,7 +1,6 @@
 -- `all_served` meets its contract: the rows' values are looked through. Assumes nothing.
 use mathlib.Core.Path.{◌≡◌, sym, ap, ◌∙◌}
 use mathlib.Core.List.{[]}
-use borrow.Author.Rules.{rules}
 use lib.ListN.{length, take}
 use Rattle.meaning.specs.declared.Refusal.TheVariants.{Unserved}
 use Rattle.meaning.specs.Graph.{rows, values, is_served}

@@ -1,21 +1,16 @@
 -- `each_served` meets its contract. The loop's invariant: the answer for the list is the answer for what is left of it. Assumes nothing.
 use mathlib.Core.Path.{◌≡◌, refl, sym, ap, ◌∙◌}
-use mathlib.Core.Bool.{Bool, ◌||◌}
-use mathlib.Core.List.{List, []}
-use Prim.Native.Nat.{ℕ, ◌-◌, ◌≤◌}
+use mathlib.Core.Bool.{◌||◌}
 use native.Mathlib.Omega.{arith}
-use borrow.Author.Rules.{rules}
-use borrow.Author.Tests.{not-true, not-false}
 use lib.Dec.{leb}
-use lib.IntN.{ℤ, pos}
-use lib.ListN.{length, take, drop, get_or}
+use lib.IntN.{pos}
+use lib.ListN.{get_or}
 use mir.Syntax.{w32}
 use mir.ValLaws.{to_z-of_z}
 use Rattle.meaning.specs.declared.Refusal.TheVariants.{Unserved}
 use Rattle.meaning.specs.Basics.{has}
 use Rattle.meaning.specs.Constants.{apart}
 use Rattle.meaning.specs.Graph.{is_served}
-use Rattle.meaning.specs.Refusals.{need_each}
 use Rattle.laws.proofs.Refusals.Members.{each_miss, each_hit, each_end}
 use Rattle.graph.proofs.each_served.Invariants.{has_row}
 use Rattle.graph.proofs.each_served.Goals as goal

@@ -1,21 +1,12 @@
-use mathlib.Core.Path.{◌≡◌, refl, sym, ap, ◌∙◌}
-use mathlib.Core.Bool.{Bool, ◌||◌}
+use mathlib.Core.Path.{◌≡◌}
+use mathlib.Core.Bool.{Bool}
 use mathlib.Core.List.{List, []}
 use Prim.Native.Nat.{ℕ, ◌-◌, ◌≤◌}
-use native.Mathlib.Omega.{arith}
-use borrow.Author.Rules.{rules}
-use borrow.Author.Tests.{not-true, not-false}
-use lib.Dec.{leb}
-use lib.IntN.{ℤ, pos}
-use lib.ListN.{length, take, drop, get_or}
-use mir.Syntax.{w32}
-use mir.ValLaws.{to_z-of_z}
+use lib.IntN.{ℤ}
+use lib.ListN.{length, take, drop}
 use Rattle.meaning.specs.declared.Refusal.TheVariants.{Unserved}
-use Rattle.meaning.specs.Basics.{has}
-use Rattle.meaning.specs.Constants.{apart}
 use Rattle.meaning.specs.Graph.{is_served}
 use Rattle.meaning.specs.Refusals.{need_each}
-use Rattle.laws.proofs.Refusals.Members.{each_miss, each_hit, each_end}
 use Rattle.graph.proofs.each_served.Given as goal
 
 abbrev pub has_row : List ℕ → List ℤ → ℤ → Bool

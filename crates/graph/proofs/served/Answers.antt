@@ -1,6 +1,5 @@
 -- `served` meets its contract. Assumes nothing.
 use mathlib.Core.Path.{ap, ◌∙◌}
-use borrow.Author.Rules.{rules}
 use borrow.Author.Tests.{le-leb, lt-leb}
 use lib.Seq.{take-length}
 use Rattle.meaning.specs.Basics.{has}

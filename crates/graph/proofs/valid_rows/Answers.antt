@@ -1,14 +1,10 @@
 -- `valid_rows` meets its contract. The loop's invariant: the answer for the rows is the answer for what is left of them. Assumes nothing.
 use mathlib.Core.Path.{◌≡◌, refl, sym, ap₂, ◌∙◌}
-use Prim.Native.Nat.{◌-◌, ◌≤◌}
 use native.Mathlib.Omega.{arith}
-use borrow.Author.Rules.{rules}
-use borrow.Author.Tests.{not-true, not-false}
-use lib.ListN.{get_or, take, drop}
+use lib.ListN.{get_or, take}
 use Rattle.meaning.specs.declared.Refusal.TheVariants as no
 use Rattle.meaning.specs.Limits.{limit}
 use Rattle.meaning.specs.Graph.{row_after, rows, does_fit}
-use Rattle.meaning.specs.Refusals.{need_each, valid_rows}
 use Rattle.laws.proofs.Graph.Rows.{length_rows, rows_take, row_of}
 use Rattle.laws.proofs.Refusals.Members.{each_miss, each_hit, each_end}
 use Rattle.graph.proofs.valid_rows.Goals as goal

@@ -1,7 +1,6 @@
 -- `keep` meets its contract: a store behind the end is none. Assumes nothing.
 use mathlib.Core.Path.{sym}
 use lib.Seq.{set_out}
-use borrow.Author.Rules.{rules}
 use Rattle.job.proofs.keep.Goals as goal
 
 pub returns-else-n-values : goal.returns-else-n-values

@@ -2,20 +2,18 @@
 -- and kept; n is at most the place, so that the fuel that is left is enough. What is left of the text falls. Assumes nothing.
 use mathlib.Core.Path.{◌≡◌, refl, ◌∙◌, sym, ap}
 use mathlib.Core.List.{List}
-use Prim.Native.Nat.{ℕ, suc, ◌+◌, ◌-◌, ◌≤◌, ◌<◌}
+use Prim.Native.Nat.{ℕ, suc, ◌+◌, ◌-◌, ◌<◌}
 use native.Mathlib.Nat.{sub-zero}
 use native.Mathlib.Omega.{arith}
 use lib.ListN.{length, set}
 use mir.Syntax.{w32}
 use mir.ValLaws.{to_z-of_z}
 use borrow.Author.Rules.{rules}
-use borrow.Author.Tests.{not-true, not-false}
 use Rattle.meaning.specs.declared.Read.TheVariants.{Number}
 use Rattle.meaning.specs.Text.{bytes, number_at}
-use Rattle.meaning.specs.Job.{most_job_targets, numbers}
 use Rattle.laws.proofs.Text.Numerals.{number_read}
 use Rattle.laws.proofs.Text.Bytes.{stands_within}
-use Rattle.job.specs.Held.{targets_of, no_targets}
+use Rattle.job.specs.Held.{targets_of}
 use Rattle.job.proofs.Kept.{numbers_none, numbers_open, numbers_last, numbers_more, targets_front, targets_one, targets_bad}
 use Rattle.job.proofs.numbers.Goals as goal
 use Rattle.job.proofs.numbers.Goals.{After-is, Else-not-is, Then-is}

@@ -1,8 +1,6 @@
 -- `parse` meets its contract: the lines that were good so far decide the definition's steps, and the next one what is answered. Assumes nothing.
 use mathlib.Core.Path.{◌≡◌, refl, ◌∙◌, sym, ap}
 use mathlib.Core.Bool.{true}
-use mathlib.Core.List.{List}
-use Prim.Native.Nat.{ℕ}
 use lib.ListN.{length}
 use lib.Dec.{leb}
 use mir.Syntax.{w32}

@@ -2,7 +2,6 @@
 use mathlib.Core.Path.{◌≡◌, refl, ◌∙◌, sym}
 use mathlib.Core.Bool.{false}
 use native.Mathlib.Omega.{arith}
-use borrow.Author.Rules.{rules}
 use Rattle.meaning.specs.Text.{bytes, stands}
 use Rattle.meaning.specs.Job.{report_at}
 use Rattle.laws.proofs.Text.Bytes.{stands_within}

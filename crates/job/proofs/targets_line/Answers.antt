@@ -2,8 +2,6 @@
 use mathlib.Core.Path.{◌≡◌, refl, ◌∙◌, sym}
 use mathlib.Core.Bool.{true}
 use native.Mathlib.Omega.{arith}
-use borrow.Author.Rules.{rules}
-use borrow.Author.Tests.{not-true, not-false}
 use Rattle.meaning.specs.Text.{bytes, stands}
 use Rattle.meaning.specs.Job.{targets_at}
 use Rattle.laws.proofs.Text.Bytes.{stands_within}

@@ -1,6 +1,6 @@
 -- What the count of trailing zeros says: it is the one r with n an odd number times 2 ^ r, at every width of the machine too. Assumes nothing.
 use mathlib.Core.Path.{◌≡◌, refl, sym, ap, ◌∙◌}
-use Prim.Native.Nat.{ℕ, zero, suc, ◌-◌, ◌*◌, ◌/◌, ◌%◌, ◌^◌, ◌≤◌, ◌<◌}
+use Prim.Native.Nat.{ℕ, zero, suc, ◌*◌, ◌/◌, ◌%◌, ◌^◌, ◌≤◌, ◌<◌}
 use native.Mathlib.Nat.{pow-suc, pow-succ', div-div-eq-div-mul, mul_assoc, mul_comm, mul-div_cancel, mod-lt, le-mul_of_pos_right}
 use native.Mathlib.Omega.{arith}
 use native.Mathlib.Decide.{dec_le}

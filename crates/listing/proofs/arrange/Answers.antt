@@ -1,5 +1,4 @@
 -- `arrange` meets its contract: the ranking, or the row numbers. Assumes nothing.
-use borrow.Author.Rules.{rules}
 use Rattle.listing.proofs.arrange.Goals as goal
 
 pub returns-then-by_width : goal.returns-then-by_width

@@ -1,9 +1,8 @@
 -- `count_up` meets its contract. Assumes nothing.
 use mathlib.Core.Path.{◌≡◌, refl, sym, ap, ◌∙◌}
-use Prim.Native.Nat.{ℕ, ◌-◌, ◌≤◌}
+use Prim.Native.Nat.{ℕ}
 use native.Mathlib.Omega.{arith}
-use borrow.Author.Rules.{rules}
-use lib.ListN.{length, length-set}
+use lib.ListN.{length-set}
 use Rattle.meaning.specs.Basics.{up_from, over}
 use Rattle.laws.proofs.Refusals.Stages.{over_none}
 use Rattle.listing.proofs.Laws.{counted}

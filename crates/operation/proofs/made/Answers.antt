@@ -5,7 +5,6 @@ use mathlib.Core.List.{[], ◌∷◌}
 use Prim.Native.Nat.{min}
 use native.Mathlib.Omega.{arith}
 use borrow.Author.Rules.{rules}
-use borrow.Author.Tests.{not-true, not-false}
 use lib.Dec.{leb, eqb, leb→le}
 use mir.Syntax.{w64}
 use mir.Val.{SFits}

@@ -3,8 +3,6 @@ use mathlib.Core.Path.{◌≡◌, ◌∙◌, ap, sym}
 use mathlib.Core.Bool.{true, cond}
 use native.Mathlib.Omega.{arith}
 use Prim.Native.Nat.{◌≤◌}
-use borrow.Author.Rules.{rules}
-use borrow.Author.Tests.{not-true, not-false}
 use lib.Dec.{leb→le}
 use Rattle.meaning.specs.declared.Operated.TheVariants.{Invalid}
 use Rattle.meaning.specs.Basics.{all}

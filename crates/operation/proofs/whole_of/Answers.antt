@@ -1,7 +1,6 @@
 -- `whole_of` meets its contract: both shifted operands are below 2 ^ 62, so that neither their sum nor their difference leaves 64 bits. Assumes nothing.
 use mathlib.Core.Path.{◌≡◌}
 use native.Mathlib.Omega.{arith}
-use borrow.Author.Rules.{rules}
 use lib.IntN.{pos, ◌+ℤ◌, ◌-ℤ◌}
 use mir.Syntax.{w64}
 use mir.Val.{SFits, to_z}

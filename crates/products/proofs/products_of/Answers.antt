@@ -1,18 +1,16 @@
 -- `products_of` meets its contract. The loop's invariant: the array begins with the products of the rows passed. Assumes nothing.
 use mathlib.Core.Path.{◌≡◌, refl, sym, ap, ◌∙◌}
 use mathlib.Core.List.{[], ◌∷◌}
-use Prim.Native.Nat.{◌+◌, ◌-◌, ◌^◌, ◌≤◌}
+use Prim.Native.Nat.{◌+◌, ◌^◌, ◌≤◌}
 use native.Mathlib.Omega.{arith}
 use borrow.Author.Rules.{rules}
 use lib.IntN.{nat_abs}
-use lib.ListN.{length, take, length-set}
+use lib.ListN.{length-set}
 use lib.Seq.{length-take-le}
 use mir.Syntax.{w32, w64}
 use mir.Val.{SFits, to_z, of_z}
 use mir.ValLaws.{to_z-of_z}
 use Rattle.laws.proofs.Whole.Signed.{wide}
-use Rattle.meaning.specs.Graph.{rows}
-use Rattle.meaning.specs.Products.{products}
 use Rattle.products.proofs.Laws.{fill_start, fill_more}
 use Rattle.products.proofs.Ranges.{abs_32, next_of}
 use Rattle.products.proofs.products_of.Goals as goal

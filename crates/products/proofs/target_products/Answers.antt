@@ -1,7 +1,6 @@
 -- `target_products` meets its contract: by the rows' values. Assumes nothing.
 use mathlib.Core.Path.{◌≡◌, sym, ap, ◌∙◌, subst⁻¹}
 use mathlib.Core.List.{map}
-use borrow.Author.Rules.{rules}
 use lib.Dec.{T}
 use lib.ListN.{length, take}
 use Rattle.meaning.specs.Basics.{every, over}

@@ -1,15 +1,12 @@
 -- `write_targets` meets its contract. The loop's invariant: the products of the targets passed stand in front, the rest as it was. Assumes nothing.
 use mathlib.Core.Path.{◌≡◌, refl, ◌∙◌}
-use mathlib.Core.List.{map}
-use Prim.Native.Nat.{◌-◌, ◌≤◌}
 use native.Mathlib.Omega.{arith}
 use borrow.Author.Rules.{rules}
 use lib.IntN.{pos}
-use lib.ListN.{length, take, get_or, length-set}
+use lib.ListN.{get_or, length-set}
 use mir.Syntax.{w32, w64}
 use mir.Val.{SFits, to_z, of_z}
 use mir.ValLaws.{to_z-of_z}
-use Rattle.meaning.specs.Basics.{over}
 use Rattle.meaning.specs.Graph.{is_served}
 use Rattle.laws.proofs.Lists.Over.{over_start, over_more, over_end}
 use Rattle.meaning.specs.Products.{target_product}
@@ -33,8 +30,7 @@ target_product-requires c =
 
 pub loop-k-preserved : goal.loop-k-preserved
 loop-k-preserved c =
-    let l = c.loop-k in
-    (
+    let l = c.loop-k in (
       omega arith,
       simp length-set l.invariant.1,
       rw (to_z-of_z w64 _ (fit c), c.target_product.ensures, t_is (goal.at.loop-k-preserved c).After-t-1, l.invariant.2)

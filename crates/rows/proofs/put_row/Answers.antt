@@ -9,7 +9,6 @@ use Rattle.meaning.specs.declared.Row.{Row}
 use Rattle.meaning.specs.Basics.{over_at}
 use Rattle.meaning.specs.Graph.{row_length, words}
 use Rattle.laws.proofs.Lists.Over.{over_at_sets}
-use borrow.Author.Rules.{rules}
 use Rattle.rows.proofs.put_row.Goals as goal
 
 stored : (l : List ℕ) (a : ℕ) (x : Row) → a + row_length ≤ length l

@@ -1,10 +1,9 @@
 -- `values` meets its contract. The loop's invariant: the values of the rows passed stand over the front. Assumes nothing.
 use mathlib.Core.Path.{◌≡◌, refl, sym, ap, ap₂, ◌∙◌}
 use mathlib.Core.List.{List}
-use Prim.Native.Nat.{ℕ, ◌-◌, ◌≤◌}
+use Prim.Native.Nat.{ℕ}
 use native.Mathlib.Omega.{arith}
-use borrow.Author.Rules.{rules}
-use lib.ListN.{length, take, set, length-set}
+use lib.ListN.{length, set, length-set}
 use lib.Seq.{take_all}
 use Rattle.meaning.specs.Basics.{over}
 use Rattle.meaning.specs.Graph.{rows, values}

@@ -1,5 +1,4 @@
 -- `within` meets its contract. Assumes nothing.
-use borrow.Author.Rules.{rules}
 use borrow.Author.Tests.{le-leb, lt-leb}
 use Rattle.laws.proofs.Lists.Tests.{and_true}
 use Rattle.rows.proofs.within.Goals as goal

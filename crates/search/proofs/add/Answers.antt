@@ -1,7 +1,6 @@
 -- `add` meets its contract: what one operation reaches with v is what it reached, what v makes with each ready value, and what it makes with
 -- itself. Assumes nothing.
 use mathlib.Core.Path.{◌∙◌}
-use borrow.Author.Rules.{rules}
 use lib.ListN.{take}
 use Rattle.search.proofs.Marks.{reach_more}
 use Rattle.search.proofs.add.Goals as goal

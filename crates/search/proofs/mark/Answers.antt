@@ -1,7 +1,6 @@
 -- `mark` meets its contract: n is 0, or what is left of it is too great, or one byte is set. Assumes nothing.
 use mathlib.Core.Path.{refl}
 use native.Mathlib.Omega.{arith}
-use borrow.Author.Rules.{rules}
 use Rattle.search.proofs.Marks.{mark_none, mark_past, mark_one}
 use Rattle.search.proofs.mark.Goals as goal
 

@@ -2,7 +2,6 @@
 use mathlib.Core.Path.{sym}
 use Rattle.search.proofs.Sides.{one_op_is}
 use Rattle.search.proofs.Marks.{adds_then}
-use borrow.Author.Rules.{rules}
 use Rattle.search.proofs.pair.Goals as goal
 
 pub returns : goal.returns

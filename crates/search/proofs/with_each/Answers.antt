@@ -1,8 +1,7 @@
 -- `with_each` meets its contract. The loop's invariant: the results with the first i values are marked, and nothing else is new. Assumes nothing.
 use mathlib.Core.Path.{◌≡◌, subst}
-use Prim.Native.Nat.{ℕ, ◌-◌, ◌≤◌}
+use Prim.Native.Nat.{ℕ}
 use native.Mathlib.Omega.{arith}
-use borrow.Author.Rules.{rules}
 use lib.ListN.{length, take}
 use Rattle.search.specs.Sides.{is_with}
 use Rattle.search.specs.Marks.{Adds}

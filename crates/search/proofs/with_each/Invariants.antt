@@ -1,11 +1,7 @@
-use mathlib.Core.Path.{◌≡◌, subst}
-use Prim.Native.Nat.{ℕ, ◌-◌, ◌≤◌}
-use native.Mathlib.Omega.{arith}
-use borrow.Author.Rules.{rules}
-use lib.ListN.{length, take}
+use Prim.Native.Nat.{◌-◌, ◌≤◌}
+use lib.ListN.{take}
 use Rattle.search.specs.Sides.{is_with}
 use Rattle.search.specs.Marks.{Adds}
-use Rattle.search.proofs.Marks.{with_start, with_more}
 use Rattle.search.proofs.with_each.Given as goal
 
 abbrev pub invariant-loop-i : goal.invariant-loop-i

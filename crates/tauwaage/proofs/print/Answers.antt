@@ -1,7 +1,6 @@
 -- `print` is safe and ends. Assumes nothing.
 use mathlib.Core.Path.{sym}
 use lib.Seq.{length-take-le}
-use borrow.Author.Rules.{rules}
 use Rattle.tauwaage.proofs.print.Goals as goal
 
 pub slice_bounds-write-end-then-n-out : goal.slice_bounds-write-end-then-n-out

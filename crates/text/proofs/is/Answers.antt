@@ -3,7 +3,6 @@ use mathlib.Core.Path.{◌≡◌, refl}
 use mathlib.Core.Bool.{Bool, true, false, cond}
 use borrow.Author.Tests.{lt-ltb, le-ltb}
 use Rattle.meaning.specs.Text.{stands}
-use borrow.Author.Rules.{rules}
 use Rattle.text.proofs.is.Goals as goal
 
 same_bool : (b : Bool) → b ≡ cond b true false

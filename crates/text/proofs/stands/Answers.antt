@@ -1,10 +1,7 @@
 -- `stands` meets its contract. The loop's invariant: what is left of the text must stand at the place reached. What is left of it falls.
 -- Assumes nothing.
-use mathlib.Core.Path.{◌≡◌, refl, ◌∙◌, sym}
-use Prim.Native.Nat.{◌-◌, ◌≤◌}
+use mathlib.Core.Path.{refl, ◌∙◌, sym}
 use native.Mathlib.Omega.{arith}
-use lib.ListN.{length, drop}
-use Rattle.meaning.specs.Text.{stands}
 use Rattle.laws.proofs.Text.Bytes.{stands_short, stands_other, stands_more, stands_end}
 use Rattle.text.proofs.stands.Goals as goal
 

@@ -1,9 +1,7 @@
-use mathlib.Core.Path.{◌≡◌, refl, ◌∙◌, sym}
+use mathlib.Core.Path.{◌≡◌}
 use Prim.Native.Nat.{◌-◌, ◌≤◌}
-use native.Mathlib.Omega.{arith}
 use lib.ListN.{length, drop}
 use Rattle.meaning.specs.Text.{stands}
-use Rattle.laws.proofs.Text.Bytes.{stands_short, stands_other, stands_more, stands_end}
 use Rattle.text.proofs.stands.Given as goal
 
 abbrev pub invariant-loop-i : goal.invariant-loop-i

@@ -1,11 +1,7 @@
 -- `each_width` meets its contract. The loop's invariant: the widths of the values passed stand over the front. Assumes nothing.
-use mathlib.Core.Path.{◌≡◌, refl, ap₂, ◌∙◌}
-use mathlib.Core.List.{map}
-use Prim.Native.Nat.{◌-◌, ◌≤◌}
+use mathlib.Core.Path.{refl, ap₂, ◌∙◌}
 use native.Mathlib.Omega.{arith}
-use borrow.Author.Rules.{rules}
-use lib.ListN.{length, take, set, length-set}
-use Rattle.meaning.specs.Basics.{over}
+use lib.ListN.{set, length-set}
 use Rattle.meaning.specs.Widths.{row_width}
 use Rattle.laws.proofs.Lists.Over.{over_start, over_more, over_end}
 use Rattle.widths.proofs.each_width.Goals as goal

@@ -1,12 +1,9 @@
-use mathlib.Core.Path.{◌≡◌, refl, ap₂, ◌∙◌}
+use mathlib.Core.Path.{◌≡◌}
 use mathlib.Core.List.{map}
 use Prim.Native.Nat.{◌-◌, ◌≤◌}
-use native.Mathlib.Omega.{arith}
-use borrow.Author.Rules.{rules}
-use lib.ListN.{length, take, set, length-set}
+use lib.ListN.{length, take}
 use Rattle.meaning.specs.Basics.{over}
 use Rattle.meaning.specs.Widths.{row_width}
-use Rattle.laws.proofs.Lists.Over.{over_start, over_more, over_end}
 use Rattle.widths.proofs.each_width.Given as goal
 
 abbrev pub invariant-loop-i : goal.invariant-loop-i

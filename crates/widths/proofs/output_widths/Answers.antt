@@ -1,9 +1,8 @@
 -- `output_widths` meets its contract. The loop's invariant: the widths of the targets passed stand over the slice from a place on. Assumes nothing.
 use mathlib.Core.Path.{◌≡◌, refl, sym, ap, ap₂, ◌∙◌}
 use mathlib.Core.List.{map}
-use Prim.Native.Nat.{◌+◌, ◌-◌, ◌≤◌}
+use Prim.Native.Nat.{◌+◌}
 use native.Mathlib.Omega.{arith}
-use borrow.Author.Rules.{rules}
 use lib.IntN.{pos}
 use lib.ListN.{length, take, set, get_or, length-set}
 use lib.Seq.{take-length}

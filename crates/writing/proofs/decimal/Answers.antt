@@ -1,7 +1,6 @@
 -- `decimal` meets its contract: what `io::decimal` writes is the number's text. Assumes nothing.
 use mathlib.Core.Path.{◌≡◌, ◌∙◌}
 use lib.ListN.{take}
-use borrow.Author.Rules.{rules}
 use Rattle.meaning.specs.Text.{unsigned_text}
 use Rattle.writing.proofs.Io.{unsigned_io}
 use Rattle.writing.proofs.Writing.{same_text}

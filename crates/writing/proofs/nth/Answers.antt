@@ -2,7 +2,6 @@
 use mathlib.Core.Path.{sym}
 use lib.IntN.{pos}
 use lib.ListN.{get_or-eq_default}
-use borrow.Author.Rules.{rules}
 use Rattle.writing.proofs.nth.Goals as goal
 
 pub returns : goal.returns

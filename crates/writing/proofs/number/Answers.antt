@@ -7,7 +7,6 @@ use lib.IntN.{nat_abs}
 use lib.ListN.{length, length-set}
 use mir.Syntax.{w64}
 use mir.ValLaws.{to_z-of_z}
-use borrow.Author.Rules.{rules}
 use Rattle.meaning.specs.Text.{unsigned_text, text_of}
 use Rattle.writing.proofs.Writing.{◌⨾◌, same_text, byte, below_text, other_text}
 use Rattle.writing.proofs.number.Goals as goal

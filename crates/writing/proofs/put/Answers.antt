@@ -1,10 +1,9 @@
 -- `put` meets its contract. The loop's invariant: the buffer is as it was, with the first bytes of the text pasted in. What is left of the text
 -- falls. Assumes nothing.
-use mathlib.Core.Path.{◌≡◌, refl}
-use Prim.Native.Nat.{◌-◌, ◌≤◌}
+use mathlib.Core.Path.{refl}
 use native.Mathlib.Omega.{arith}
-use lib.ListN.{length, length-set}
-use lib.Seq.{paste, paste-zero}
+use lib.ListN.{length-set}
+use lib.Seq.{paste-zero}
 use Rattle.writing.proofs.Writing.{paste_more, paste_whole}
 use Rattle.writing.proofs.put.Goals as goal
 

@@ -1,9 +1,7 @@
-use mathlib.Core.Path.{◌≡◌, refl}
+use mathlib.Core.Path.{◌≡◌}
 use Prim.Native.Nat.{◌-◌, ◌≤◌}
-use native.Mathlib.Omega.{arith}
-use lib.ListN.{length, length-set}
-use lib.Seq.{paste, paste-zero}
-use Rattle.writing.proofs.Writing.{paste_more, paste_whole}
+use lib.ListN.{length}
+use lib.Seq.{paste}
 use Rattle.writing.proofs.put.Given as goal
 
 abbrev pub invariant-loop-k : goal.invariant-loop-k

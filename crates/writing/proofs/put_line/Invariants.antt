@@ -1,14 +1,7 @@
-use mathlib.Core.Path.{◌≡◌, refl, ◌∙◌}
+use mathlib.Core.Path.{◌≡◌}
 use Prim.Native.Nat.{◌-◌, ◌≤◌}
-use native.Mathlib.Omega.{arith}
-use lib.IntN.{pos}
-use lib.ListN.{length, get_or}
-use mir.Syntax.{w64}
-use mir.Val.{SFits, to_z, of_z}
-use mir.ValLaws.{to_z-of_z}
-use borrow.Author.Rules.{rules}
-use Rattle.laws.proofs.Text.Forms.{taken_most}
-use Rattle.writing.proofs.Writing.{Begun, begin, part_room, part_on, line_done}
+use lib.ListN.{length}
+use Rattle.writing.proofs.Writing.{Begun}
 use Rattle.writing.proofs.put_line.Given as goal
 
 abbrev pub invariant-loop-i : goal.invariant-loop-i

@@ -5,7 +5,6 @@ use mathlib.Core.List.{List, [], ◌∷◌}
 use Prim.Native.Nat.{ℕ, ◌%◌, ◌^◌, ◌≤◌}
 use native.Mathlib.Omega.{arith}
 use borrow.Author.Rules.{rules}
-use borrow.Author.Tests.{not-true, not-false}
 use lib.Dec.{eqb, ltb, leb→le}
 use lib.ListN.{length}
 use Rattle.meaning.specs.declared.Refusal.TheVariants as no

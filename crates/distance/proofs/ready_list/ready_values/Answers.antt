@@ -1,16 +1,11 @@
 -- `ready_values` meets its contract. The loop's invariant: the answer for the list is the answer for what is left of it. Assumes nothing.
 use mathlib.Core.Path.{◌≡◌, refl, sym, ap, ◌∙◌}
-use mathlib.Core.Bool.{Bool, ◌&&◌}
-use mathlib.Core.List.{List}
-use Prim.Native.Nat.{ℕ, ◌-◌, ◌%◌, ◌^◌, ◌≤◌}
+use mathlib.Core.Bool.{◌&&◌}
+use Prim.Native.Nat.{◌%◌, ◌^◌}
 use native.Mathlib.Omega.{arith}
-use borrow.Author.Rules.{rules}
-use borrow.Author.Tests.{not-true, not-false}
 use lib.Dec.{eqb, ltb}
-use lib.ListN.{length, get_or, take, drop}
+use lib.ListN.{get_or, take}
 use Rattle.meaning.specs.declared.Refusal.TheVariants as no
-use Rattle.meaning.specs.Limits.{limit}
-use Rattle.meaning.specs.Refusals.{need_each, ready_values}
 use Rattle.laws.proofs.Refusals.Members.{each_miss, each_hit, each_end}
 use Rattle.distance.proofs.ready_list.ready_values.Invariants.{fit}
 use Rattle.distance.proofs.ready_list.ready_values.Goals as goal

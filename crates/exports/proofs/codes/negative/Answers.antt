@@ -1,6 +1,5 @@
 -- `negative` meets its contract: k is below 2^63, so it and -k fit. Assumes nothing.
 use mathlib.Core.Path.{◌∙◌}
-use borrow.Author.Rules.{rules}
 use lib.IntN.{+ℤ_idl}
 use mir.Syntax.{w64}
 use mir.ValLaws.{to_z-of_z, to_z_pos}

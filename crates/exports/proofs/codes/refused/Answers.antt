@@ -5,7 +5,6 @@ use borrow.Author.Rules.{rules}
 use mir.Syntax.{w64}
 use mir.Val.{SFits}
 use mir.ValLaws.{to_z-of_z}
-use Rattle.meaning.specs.Refusals.{number}
 use Rattle.exports.proofs.Fits.{refusal_told}
 use Rattle.exports.proofs.codes.refused.Goals as goal
 use Rattle.exports.proofs.codes.refused.Goals.{After-negative}

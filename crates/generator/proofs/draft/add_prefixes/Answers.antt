@@ -1,8 +1,7 @@
 -- `add_prefixes` meets its contract. Assumes nothing.
 use mathlib.Core.Path.{◌≡◌, refl, ap, ◌∙◌, subst, subst⁻¹}
-use Prim.Native.Nat.{ℕ, ◌-◌, ◌≤◌, ◌<◌}
+use Prim.Native.Nat.{ℕ, ◌<◌}
 use native.Mathlib.Omega.{arith}
-use borrow.Author.Rules.{rules}
 use lib.ListN.{length, get_or}
 use Rattle.meaning.specs.declared.Prefix.{Prefix}
 use Rattle.meaning.specs.Digits.{prefixes}
@@ -12,7 +11,7 @@ use Rattle.digits.specs.Held.{nothing, prefixes_held}
 use Rattle.digits.proofs.Laws.{held_count, held_at}
 use Rattle.meaning.specs.Operation.{Odd}
 use Rattle.generator.specs.Growth.{drawn_rows, Open, Grown, prefix_rows}
-use Rattle.generator.proofs.DraftLaws.{Part, part_start, part_open, part_more, part_end}
+use Rattle.generator.proofs.DraftLaws.{part_start, part_open, part_more, part_end}
 use Rattle.generator.proofs.draft.add_prefixes.Goals as goal
 use Rattle.generator.proofs.draft.add_prefixes.Goals.{After-prefixes_of-ps, In-loop-i}
 

@@ -1,5 +1,4 @@
 -- `add_row` meets its contract. Assumes nothing.
-use borrow.Author.Rules.{rules}
 use Rattle.search.specs.Held.{Added}
 use Rattle.generator.proofs.DraftLaws.{grown_one}
 use Rattle.generator.proofs.draft.add_row.Goals as goal

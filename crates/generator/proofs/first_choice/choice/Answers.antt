@@ -2,7 +2,6 @@
 use mathlib.Core.Path.{◌≡◌, sym, ap, ◌∙◌}
 use Prim.Native.Nat.{◌/◌, ◌^◌, ◌<◌}
 use native.Mathlib.Omega.{arith}
-use borrow.Author.Rules.{rules}
 use lib.Count.{count_trailing_zeros}
 use Rattle.meaning.specs.Basics.{zeros}
 use Rattle.laws.proofs.Whole.Zeros.{machine_is, zeros_low}

@@ -1,12 +1,11 @@
 -- `choice_for` meets its contract. The loop's invariant: the u indices passed give nothing, so that the answer for all is that for those left.
 -- What is left of them falls. Assumes nothing.
-use Prim.Native.Nat.{◌-◌, ◌≤◌}
 use native.Mathlib.Omega.{arith}
 use borrow.Author.Rules.{rules}
 use lib.ListN.{take}
 use Rattle.meaning.specs.Generator.{choice_for}
 use Rattle.generator.specs.Search.{from_choice}
-use Rattle.generator.proofs.FirstChoice.{Going, going_on, going_hit, going_end, rows_start}
+use Rattle.generator.proofs.FirstChoice.{going_on, going_hit, going_end, rows_start}
 use Rattle.generator.proofs.first_choice.choice_for.Goals as goal
 
 pub loop-i-init : goal.loop-i-init

@@ -1,10 +1,8 @@
 use Prim.Native.Nat.{◌-◌, ◌≤◌}
-use native.Mathlib.Omega.{arith}
-use borrow.Author.Rules.{rules}
 use lib.ListN.{take}
 use Rattle.meaning.specs.Generator.{choice_for}
 use Rattle.generator.specs.Search.{from_choice}
-use Rattle.generator.proofs.FirstChoice.{Going, going_on, going_hit, going_end, rows_start}
+use Rattle.generator.proofs.FirstChoice.{Going}
 use Rattle.generator.proofs.first_choice.choice_for.Given as goal
 
 abbrev pub invariant-loop-i : goal.invariant-loop-i

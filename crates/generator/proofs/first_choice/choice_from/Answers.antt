@@ -1,12 +1,11 @@
 -- `choice_from` meets its contract. The loop's invariant: the pairs passed give nothing, so that the answer for all is that for those left.
 -- What is left of them falls. Assumes nothing.
 use mathlib.Core.Path.{◌≡◌, ap, ◌∙◌}
-use Prim.Native.Nat.{◌-◌, ◌≤◌}
 use native.Mathlib.Omega.{arith}
 use borrow.Author.Rules.{rules}
 use lib.ListN.{take}
 use Rattle.generator.specs.Search.{found, pair_choice, pair_at, from_choice}
-use Rattle.generator.proofs.FirstChoice.{Going, going_on, going_hit, going_end, from_start, pair_taken}
+use Rattle.generator.proofs.FirstChoice.{going_on, going_hit, going_end, from_start, pair_taken}
 use Rattle.generator.proofs.first_choice.choice_from.Goals as goal
 use Rattle.generator.proofs.first_choice.choice_from.Goals.{After-pair_choice-f}
 

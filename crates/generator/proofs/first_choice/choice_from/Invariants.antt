@@ -1,10 +1,7 @@
-use mathlib.Core.Path.{◌≡◌, ap, ◌∙◌}
 use Prim.Native.Nat.{◌-◌, ◌≤◌}
-use native.Mathlib.Omega.{arith}
-use borrow.Author.Rules.{rules}
 use lib.ListN.{take}
-use Rattle.generator.specs.Search.{found, pair_choice, pair_at, from_choice}
-use Rattle.generator.proofs.FirstChoice.{Going, going_on, going_hit, going_end, from_start, pair_taken}
+use Rattle.generator.specs.Search.{pair_choice, pair_at, from_choice}
+use Rattle.generator.proofs.FirstChoice.{Going}
 use Rattle.generator.proofs.first_choice.choice_from.Given as goal
 
 abbrev pub invariant-loop-j : goal.invariant-loop-j

@@ -1,10 +1,10 @@
 -- `rights` meets its contract. The loop's invariant: the shifts passed give nothing, so that the answer for all is that for those left.
 -- What is left of them falls. Assumes nothing.
-use Prim.Native.Nat.{◌+◌, ◌-◌, ◌≤◌}
+use Prim.Native.Nat.{◌+◌}
 use native.Mathlib.Omega.{arith}
 use borrow.Author.Rules.{rules}
 use Rattle.generator.specs.Search.{sign_choice, right_choice}
-use Rattle.generator.proofs.FirstChoice.{Going, going_on, going_hit, going_end, right_start}
+use Rattle.generator.proofs.FirstChoice.{going_on, going_hit, going_end, right_start}
 use Rattle.generator.proofs.first_choice.rights.Goals as goal
 
 pub loop-l-init : goal.loop-l-init

@@ -1,8 +1,6 @@
 use Prim.Native.Nat.{◌+◌, ◌-◌, ◌≤◌}
-use native.Mathlib.Omega.{arith}
-use borrow.Author.Rules.{rules}
 use Rattle.generator.specs.Search.{sign_choice, right_choice}
-use Rattle.generator.proofs.FirstChoice.{Going, going_on, going_hit, going_end, right_start}
+use Rattle.generator.proofs.FirstChoice.{Going}
 use Rattle.generator.proofs.first_choice.rights.Given as goal
 
 abbrev pub invariant-loop-l : goal.invariant-loop-l

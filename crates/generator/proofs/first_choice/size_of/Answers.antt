@@ -2,7 +2,6 @@
 use mathlib.Core.Path.{◌≡◌}
 use Prim.Native.Nat.{suc, ◌-◌}
 use native.Mathlib.Omega.{arith}
-use borrow.Author.Rules.{rules}
 use Rattle.generator.proofs.first_choice.size_of.Goals as goal
 
 pub returns-then-s-eq0 : goal.returns-then-s-eq0

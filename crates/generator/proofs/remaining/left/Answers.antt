@@ -1,11 +1,9 @@
 -- `left` meets its contract. The loop's invariant, `Sifted`: the result holds those of the constants passed that are not ready.
 -- What is left of the constants falls. Assumes nothing.
 use mathlib.Core.Path.{◌≡◌, sym, ◌∙◌, subst⁻¹}
-use mathlib.Core.Logic.{⊎_elim}
-use Prim.Native.Nat.{◌+◌, ◌-◌, ◌≤◌}
+use Prim.Native.Nat.{◌+◌}
 use native.Mathlib.Omega.{arith}
 use borrow.Author.Rules.{rules}
-use borrow.Author.Tests.{not-true, not-false}
 use lib.ListN.{length}
 use Rattle.constants.specs.declared.wanted.Wanted.{Wanted}
 use Rattle.constants.specs.Held.{kept}
@@ -31,8 +29,9 @@ loop-i-preserved c =
     let on : Wanted → Type 0 = λ r. Sifted vals cs r (c.loop-i.i + 1) in (
       omega arith,
       elim c.if-not-has.branch [
-        then-not-has w ↦ subst⁻¹ on w.r-is (sift_left vals cs c.loop-i.r c.loop-i.i c.loop-i.invariant.1 _ l (omega arith) g (sym e ∙ w.if-not-has.true))
-      | else-not-has w ↦ subst⁻¹ on w.r-is (sift_ready vals cs c.loop-i.r c.loop-i.i c.loop-i.invariant.1 _ l g (sym e ∙ w.if-not-has.false)) ],
+        | then-not-has w ↦ subst⁻¹ on w.r-is (sift_left vals cs c.loop-i.r c.loop-i.i c.loop-i.invariant.1 _ l (omega arith) g (sym e ∙ w.if-not-has.true))
+        | else-not-has w ↦ subst⁻¹ on w.r-is (sift_ready vals cs c.loop-i.r c.loop-i.i c.loop-i.invariant.1 _ l g (sym e ∙ w.if-not-has.false))
+      ],
     )
 
 pub returns : goal.returns

@@ -1,13 +1,8 @@
-use mathlib.Core.Path.{◌≡◌, refl, sym, ap, ◌∙◌}
-use mathlib.Core.List.{◌∷◌}
-use Prim.Native.Nat.{◌+◌, ◌-◌, ◌≤◌}
-use native.Mathlib.Omega.{arith}
-use borrow.Author.Rules.{rules}
-use lib.ListN.{length, get_or, drop, drop_of_length-le}
+use mathlib.Core.Path.{◌≡◌}
+use Prim.Native.Nat.{◌-◌, ◌≤◌}
+use lib.ListN.{drop}
 use Rattle.constants.specs.Held.{kept}
-use Rattle.constants.proofs.Kept.{kept_next, kept_end}
 use Rattle.generator.specs.Rule.{first_marked}
-use Rattle.generator.proofs.RuleLaws.{marked_hit, marked_miss, marked_end}
 use Rattle.generator.proofs.rule.nearest.Given as goal
 
 abbrev pub invariant-loop-i : goal.invariant-loop-i

@@ -1,18 +1,12 @@
-use mathlib.Core.Path.{◌≡◌, refl, sym, ap, ◌∙◌}
-use mathlib.Core.List.{List, ◌∷◌, Memᴰ}
-use Prim.Native.Nat.{ℕ, ◌+◌, ◌-◌, ◌≤◌}
-use native.Mathlib.Omega.{arith}
-use borrow.Author.Rules.{rules}
-use lib.ListN.{length, get_or, drop, drop_of_length-le}
+use mathlib.Core.Path.{◌≡◌}
+use mathlib.Core.List.{List}
+use Prim.Native.Nat.{◌-◌, ◌≤◌}
+use lib.ListN.{drop}
 use Rattle.meaning.specs.declared.Row.{Row}
 use Rattle.meaning.specs.Graph.{ready}
 use Rattle.meaning.specs.Generator.{rule_b}
 use Rattle.constants.specs.Held.{kept}
-use Rattle.constants.proofs.Kept.{kept_in, kept_next, kept_end}
 use Rattle.search.specs.Held.{listed}
-use Rattle.search.specs.Choices.{chosen_in}
-use Rattle.search.proofs.RuleB.{b_empty}
-use Rattle.generator.proofs.RuleLaws.{picked_at, picked_none, ceiling}
 use Rattle.generator.proofs.rule.pick.Given as goal
 
 abbrev pub invariant-loop-i : goal.invariant-loop-i

@@ -24,11 +24,11 @@ nearest_is : (c : In-At) → Nearest c.args.limit (drawn_rows c.args.set c.args.
 nearest_is c =
     near_at _ _ _ _ c.requires.room.state _ c.requires.room.same _ c.requires.servable _ (sym c.nearest.ensures ∙ c.in-At.is)
 
-added_by_a : (c : In-At) → 
+added_by_a : (c : In-At) →
     added c.args.limit (drawn_rows c.args.set c.args.out.now) (kept c.args.w) ≡ at_most_one (row_for c.args.limit (drawn_rows c.args.set c.args.out.now) c.in-At.c)
 added_by_a c = added_a _ _ _ _ (nearest_is c).rows
 
-none_near : (c : In_default) → 
+none_near : (c : In_default) →
     (rule_a c.args.limit (drawn_rows c.args.set c.args.out.now) (kept c.args.w) ≡ none) × NoneNear c.args.limit (listed c.args.set) (kept c.args.w)
 none_near c =
     near_nothing _ _ _ _ c.requires.room.state _ c.requires.room.same _ c.requires.servable (sym c.nearest.ensures ∙ c.in_default.is)
@@ -47,20 +47,20 @@ second_row c = at_most_one (row_for c.args.limit (drawn_rows c.args.set c.args.o
 added_by_b : (c : In-By) → added c.args.limit (drawn_rows c.args.set c.args.out.now) (kept c.args.w) ≡ first_row c ++ second_row c
 added_by_b c =
     let n : (rule_a c.args.limit (drawn_rows c.args.set c.args.out.now) (kept c.args.w) ≡ none) × NoneNear c.args.limit (listed c.args.set) (kept c.args.w) =
-        near_nothing _ _ _ _ c.requires.room.state _ c.requires.room.same _ c.requires.servable (sym c.nearest.ensures ∙ c.in_default.is) in
+    near_nothing _ _ _ _ c.requires.room.state _ c.requires.room.same _ c.requires.servable (sym c.nearest.ensures ∙ c.in_default.is) in
     added_b _ _ _ _ n.0 (picked_is c).rows
 
 two : (c : In-By) → length (added c.args.limit (drawn_rows c.args.set c.args.out.now) (kept c.args.w)) ≡ 2
 two c =
     let n : (rule_a c.args.limit (drawn_rows c.args.set c.args.out.now) (kept c.args.w) ≡ none) × NoneNear c.args.limit (listed c.args.set) (kept c.args.w) =
-        near_nothing _ _ _ _ c.requires.room.state _ c.requires.room.same _ c.requires.servable (sym c.nearest.ensures ∙ c.in_default.is) in
+    near_nothing _ _ _ _ c.requires.room.state _ c.requires.room.same _ c.requires.servable (sym c.nearest.ensures ∙ c.in_default.is) in
     added_two _ _ _ _ _ n.0 (picked_is c)
 
-added_by_c : (c : In_default-pick) → 
+added_by_c : (c : In_default-pick) →
     added c.args.limit (drawn_rows c.args.set c.args.out.now) (kept c.args.w) ≡ rule_c (drawn_rows c.args.set c.args.out.now) (prefixes (get_or c.args.w.values 0 0))
 added_by_c c =
     let n : (rule_a c.args.limit (drawn_rows c.args.set c.args.out.now) (kept c.args.w) ≡ none) × NoneNear c.args.limit (listed c.args.set) (kept c.args.w) =
-        near_nothing _ _ _ _ c.requires.room.state _ c.requires.room.same _ c.requires.servable (sym c.nearest.ensures ∙ c.in_default.is) in
+    near_nothing _ _ _ _ c.requires.room.state _ c.requires.room.same _ c.requires.servable (sym c.nearest.ensures ∙ c.in_default.is) in
     let a = c.args in
     let some = c.if-w-eq0.false in
     let p : length a.w.values ≡ 16 = search rules in
@@ -110,7 +110,7 @@ returns-in-By c =
     let b = (goal.at.returns-in-By c).In-By in
     -- the rows drawn with that of s
     let s : drawn_rows c.add_first-more.result c.add_first-more.new.out ≡ drawn_rows a.set a.out.now ++ first_row b =
-        drawn_more _ (omega (arith, two b, (picked_is b).first)) c.requires.room c.add_first-more.ensures in
+    drawn_more _ (omega (arith, two b, (picked_is b).first)) c.requires.room c.add_first-more.ensures in
     subst⁻¹ (λ (xs : List Row). Grown a.limit a.set xs c.add_first-in-By.result c.add_first-in-By.new.map a.out.now c.add_first-in-By.new.out)
     (added_by_b (goal.at.returns-in-By c).In-By)
     (grown_then _ c.requires.room c.add_first-more.ensures

@@ -1,5 +1,4 @@
 -- `row_fits` meets its contract. Assumes nothing.
-use borrow.Author.Rules.{rules}
 use Rattle.graph.proofs.ValidRowLaws.{fits_first, fits_second, fits_read}
 use Rattle.graph.proofs.valid_row.row_fits.Goals as goal
 

@@ -2,7 +2,6 @@
 use mathlib.Core.Path.{ap}
 use Prim.Native.Nat.{ℕ, ◌-◌}
 use native.Mathlib.Omega.{arith}
-use borrow.Author.Rules.{rules}
 use Rattle.laws.proofs.Digits.Chain.{count_is}
 use Rattle.laws.proofs.Digits.Count.{few_seventeen}
 use Rattle.listing.proofs.head.cost.Goals as goal

@@ -1,12 +1,11 @@
 -- `csd_sum` meets its contract. The loop's invariant: the sum so far and that of the constants left are the whole. What is left
 -- of the constants falls. Assumes nothing.
 use mathlib.Core.Path.{◌≡◌, ap, ◌∙◌}
-use Prim.Native.Nat.{◌+◌, ◌*◌, ◌-◌, ◌≤◌, ◌<◌}
+use Prim.Native.Nat.{◌≤◌, ◌<◌}
 use native.Mathlib.Omega.{arith}
-use borrow.Author.Rules.{rules}
-use lib.ListN.{length, get_or, drop}
+use lib.ListN.{length, get_or}
 use Rattle.meaning.specs.Constants.{wanted}
-use Rattle.meaning.specs.Digits.{cost, csd_sum}
+use Rattle.meaning.specs.Digits.{cost}
 use Rattle.laws.proofs.Constants.Wanted.{wanted_length}
 use Rattle.constants.specs.Held.{wanted_held}
 use Rattle.constants.proofs.Insertion.{held_count, held_value, held_all}
@@ -52,7 +51,6 @@ loop-i-preserved c = (
   omega arith,
   omega (arith, c.cost-sum.ensures.1),
   rw (added c) (sum_more _ _ _ c.loop-i.invariant.2 (inside (goal.at.loop-i-preserved c).In-loop-i)),
-
 )
 
 pub returns : goal.returns

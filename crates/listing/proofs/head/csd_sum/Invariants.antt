@@ -1,14 +1,8 @@
-use mathlib.Core.Path.{◌≡◌, ap, ◌∙◌}
-use Prim.Native.Nat.{◌+◌, ◌*◌, ◌-◌, ◌≤◌, ◌<◌}
-use native.Mathlib.Omega.{arith}
-use borrow.Author.Rules.{rules}
-use lib.ListN.{length, get_or, drop}
+use mathlib.Core.Path.{◌≡◌}
+use Prim.Native.Nat.{◌+◌, ◌*◌, ◌-◌, ◌≤◌}
+use lib.ListN.{drop}
 use Rattle.meaning.specs.Constants.{wanted}
-use Rattle.meaning.specs.Digits.{cost, csd_sum}
-use Rattle.laws.proofs.Constants.Wanted.{wanted_length}
-use Rattle.constants.specs.Held.{wanted_held}
-use Rattle.constants.proofs.Insertion.{held_count, held_value, held_all}
-use Rattle.listing.proofs.Laws.{sum_more, sum_end, wanted_positive}
+use Rattle.meaning.specs.Digits.{csd_sum}
 use Rattle.listing.proofs.head.csd_sum.Given as goal
 
 abbrev pub invariant-loop-i : goal.invariant-loop-i

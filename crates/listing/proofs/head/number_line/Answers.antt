@@ -1,7 +1,6 @@
 -- `number_line` meets its contract. Assumes nothing.
 use mir.Syntax.{w64}
 use mir.ValLaws.{to_z-of_z}
-use borrow.Author.Rules.{rules}
 use Rattle.listing.proofs.head.number_line.Goals as goal
 
 pub returns : goal.returns

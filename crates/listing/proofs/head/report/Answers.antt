@@ -1,5 +1,4 @@
 -- `report` meets its contract: the line for either order. Assumes nothing.
-use borrow.Author.Rules.{rules}
 use Rattle.meaning.specs.Forms.{line_of}
 use Rattle.listing.proofs.head.report.Goals as goal
 

@@ -18,7 +18,6 @@ use Rattle.meaning.specs.Listing.{out_width, out_numbers}
 use Rattle.laws.proofs.Text.Listings.{index_most}
 use Rattle.laws.proofs.Whole.Signed.{wide}
 use Rattle.writing.proofs.Writing.{same_text}
-use Rattle.listing.proofs.lines.out_line.Reads as reads
 use Rattle.listing.proofs.lines.out_line.Goals as goal
 use Rattle.listing.proofs.lines.out_line.Goals.{After-out_width, After-output_index-index, After-take_apart-parts}
 

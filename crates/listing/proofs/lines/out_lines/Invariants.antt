@@ -1,18 +1,9 @@
-use mathlib.Core.Path.{◌≡◌, refl, ap, sym, ◌∙◌}
-use mathlib.Core.List.{List, []}
-use Prim.Native.Nat.{◌+◌, ◌-◌, ◌≤◌, ◌<◌}
-use native.Mathlib.Omega.{arith}
-use lib.IntN.{ℤ, pos}
-use lib.ListN.{length, take, get_or}
-use mir.Syntax.{w32}
-use mir.Val.{to_z, of_z}
-use mir.ValLaws.{to_z-of_z}
-use borrow.Author.Rules.{rules}
-use Rattle.meaning.specs.Forms.{line_of, lines_of, out_form}
-use Rattle.meaning.specs.Listing.{out_numbers, outs_from}
+use mathlib.Core.Path.{◌≡◌}
+use Prim.Native.Nat.{◌-◌, ◌≤◌}
+use lib.ListN.{length, take}
+use Rattle.meaning.specs.Forms.{lines_of, out_form}
+use Rattle.meaning.specs.Listing.{outs_from}
 use Rattle.writing.specs.Wrote.{Wrote}
-use Rattle.writing.proofs.Writing.{lines_start, line_fits, line_on, lines_end}
-use Rattle.listing.proofs.Laws.{outs_length, outs_at}
 use Rattle.listing.proofs.lines.out_lines.Given as goal
 
 abbrev pub invariant-loop-k : goal.invariant-loop-k

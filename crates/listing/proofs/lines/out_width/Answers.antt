@@ -7,7 +7,6 @@ use mir.ValLaws.{to_z-of_z}
 use borrow.Author.Rules.{rules}
 use borrow.Author.Tests.{eq-eqb, ne_eqb}
 use Rattle.listing.proofs.Laws.{abs_zero}
-use Rattle.listing.proofs.lines.out_width.Reads as reads
 use Rattle.listing.proofs.lines.out_width.Goals as goal
 
 pub returns-then-t-eq0 : goal.returns-then-t-eq0

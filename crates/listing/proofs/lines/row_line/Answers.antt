@@ -12,7 +12,6 @@ use Rattle.meaning.specs.Forms.{line_of, row_form}
 use Rattle.meaning.specs.Listing.{row_numbers}
 use Rattle.meaning.specs.Widths.{row_width}
 use Rattle.writing.proofs.Writing.{same_text}
-use Rattle.listing.proofs.lines.row_line.Reads as reads
 use Rattle.listing.proofs.lines.row_line.Goals as goal
 use Rattle.listing.proofs.lines.row_line.Goals.{After-struct_known-7-1}
 

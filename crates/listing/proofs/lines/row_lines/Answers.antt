@@ -1,19 +1,18 @@
 -- `row_lines` meets its contract. The loop's invariant: the lines of the rows passed are written. What is left of the order falls. Assumes nothing.
 use mathlib.Core.Path.{◌≡◌, refl, sym, ap, ◌∙◌}
 use mathlib.Core.List.{List, []}
-use Prim.Native.Nat.{◌-◌, ◌≤◌, ◌<◌}
+use Prim.Native.Nat.{◌<◌}
 use native.Mathlib.Omega.{arith}
 use lib.IntN.{ℤ}
-use lib.ListN.{length, take, get_or}
+use lib.ListN.{length, get_or}
 use mir.Syntax.{w32}
 use mir.Val.{to_z, of_z}
 use mir.ValLaws.{to_z-of_z}
 use borrow.Author.Rules.{rules}
-use Rattle.meaning.specs.Forms.{lines_of, row_form}
+use Rattle.meaning.specs.Forms.{row_form}
 use Rattle.meaning.specs.Graph.{row_at, rows}
 use Rattle.meaning.specs.Listing.{row_numbers, rows_by}
 use Rattle.laws.proofs.Graph.Rows.{row_of}
-use Rattle.writing.specs.Wrote.{Wrote}
 use Rattle.writing.proofs.Writing.{lines_start, line_fits, line_on, lines_end}
 use Rattle.listing.proofs.Laws.{rows_length, rows_at}
 use Rattle.listing.proofs.lines.row_lines.Goals as goal
@@ -56,12 +55,11 @@ row_line-at-requires c =
     rw (← numbers (goal.at.row_line-at-requires c).After-row_after-x) (line_fits row_form (lines (goal.at.row_line-at-requires c).Start) c.loop-k.k c.loop-k.invariant.2 (inside (goal.at.row_line-at-requires c).In-loop-k) (rw (to_z-of_z w32 _ c.ranges.input) c.requires.1))
 
 pub loop-k-preserved : goal.loop-k-preserved
-loop-k-preserved c =
-    (
-      omega arith,
-      c.row_line-at.auto.out ∙ c.loop-k.invariant.1,
-      line_on row_form (lines (goal.at.loop-k-preserved c).Start) c.loop-k.k c.loop-k.invariant.2 (inside (goal.at.loop-k-preserved c).In-loop-k) (rw (numbers (goal.at.loop-k-preserved c).After-row_after-x) c.row_line-at.ensures),
-    )
+loop-k-preserved c = (
+  omega arith,
+  c.row_line-at.auto.out ∙ c.loop-k.invariant.1,
+  line_on row_form (lines (goal.at.loop-k-preserved c).Start) c.loop-k.k c.loop-k.invariant.2 (inside (goal.at.loop-k-preserved c).In-loop-k) (rw (numbers (goal.at.loop-k-preserved c).After-row_after-x) c.row_line-at.ensures),
+)
 
 pub shape_of-out : goal.shape_of-out
 shape_of-out c = c.loop-k.invariant.1

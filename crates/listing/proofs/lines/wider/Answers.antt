@@ -1,11 +1,10 @@
 -- `wider` meets its contract: 64 bits hold the sum. Assumes nothing.
 use mathlib.Core.Path.{◌≡◌, refl}
 use native.Mathlib.Omega.{arith}
-use lib.IntN.{ℤ, pos, ◌+ℤ◌}
+use lib.IntN.{pos, ◌+ℤ◌}
 use mir.Syntax.{w32, w64}
 use mir.Val.{SFits, to_z, of_z}
 use mir.ValLaws.{to_z-of_z, to_z_pos}
-use borrow.Author.Rules.{rules}
 use Rattle.laws.proofs.Whole.Integers.{abs_add, abs_fits}
 use Rattle.laws.proofs.Text.Listings.{magnitude_most}
 use Rattle.laws.proofs.Whole.Signed.{wide}

@@ -2,7 +2,6 @@
 use mathlib.Core.Path.{◌≡◌, ap, ◌∙◌}
 use Prim.Native.Nat.{◌^◌}
 use native.Mathlib.Omega.{arith}
-use borrow.Author.Rules.{rules}
 use lib.IntN.{pos}
 use lib.Pow.{pow_pos}
 use lib.Signed.{quot_z}

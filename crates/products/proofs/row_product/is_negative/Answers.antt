@@ -1,6 +1,5 @@
 -- `is_negative` meets its contract: what is compared are the two shifted operands. Assumes nothing.
 use mathlib.Core.Path.{ap₂, ◌∙◌}
-use borrow.Author.Rules.{rules}
 use lib.Dec.{ltb}
 use Rattle.products.proofs.RowProductLaws.{negative_less}
 use Rattle.products.proofs.row_product.is_negative.Goals as goal

@@ -1,6 +1,5 @@
 -- `natural` meets its contract. Assumes nothing.
 use mathlib.Core.Path.{◌∙◌}
-use borrow.Author.Rules.{rules}
 use mir.Syntax.{w32}
 use mir.ValLaws.{to_z-of_z}
 use Rattle.reply.proofs.Orders.{below_zero, not_below}

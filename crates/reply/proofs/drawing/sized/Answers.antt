@@ -1,13 +1,12 @@
 -- `sized` meets its contract: refusal 9, or the listing. Assumes nothing.
 use mathlib.Core.Path.{◌≡◌, sym, ap, ◌∙◌}
-use borrow.Author.Tests.{not-true, not-false}
 use lib.Dec.{leb→le}
 use mir.Syntax.{w32}
 use mir.Val.{SFits}
 use mir.ValLaws.{to_z-of_z}
 use Rattle.meaning.specs.Job.{Asked, input_of}
 use Rattle.meaning.specs.Limits.{width_tests}
-use Rattle.laws.proofs.Lists.Tests.{T_of, all_of, All}
+use Rattle.laws.proofs.Lists.Tests.{T_of, all_of}
 use Rattle.writing.proofs.Writing.{same_text}
 use Rattle.reply.proofs.Orders.{all_tests, drawn_listing, drawn_listable, reply_width, reply_listing}
 use borrow.Author.Rules.{rules}

@@ -1,6 +1,5 @@
 -- `least_partner` meets its contract: what its two calls look at. Assumes nothing.
 use mathlib.Core.Path.{refl}
-use borrow.Author.Rules.{rules}
 use Rattle.search.proofs.Least.{lowers_then}
 use Rattle.search.proofs.serving.least_partner.Goals as goal
 

@@ -2,7 +2,6 @@
 use mathlib.Core.Path.{ap, ◌∙◌}
 use Prim.Native.Nat.{ℕ, ◌%◌}
 use native.Mathlib.Omega.{arith}
-use borrow.Author.Rules.{rules}
 use Rattle.laws.proofs.Whole.Zeros.{zeros_left}
 use Rattle.search.proofs.Least.{look_none, look_one}
 use Rattle.search.proofs.serving.look.Goals as goal

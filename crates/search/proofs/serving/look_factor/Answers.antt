@@ -1,5 +1,4 @@
 -- `look_factor` meets its contract: c / f is the one number whose product with f is c, if there is one, and it is odd as c is. Assumes nothing.
-use borrow.Author.Rules.{rules}
 use Rattle.search.proofs.Least.{factor_odd, factor_none, factor_one}
 use Rattle.search.proofs.serving.look_factor.Goals as goal
 

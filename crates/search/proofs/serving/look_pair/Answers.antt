@@ -1,6 +1,5 @@
 -- `look_pair` meets its contract: an operation has one of its two operands unshifted. Assumes nothing.
 use mathlib.Core.Path.{sym}
-use borrow.Author.Rules.{rules}
 use Rattle.search.proofs.Sides.{one_op_is}
 use Rattle.search.proofs.Least.{lowers_then}
 use Rattle.search.proofs.serving.look_pair.Goals as goal

@@ -1,8 +1,7 @@
 -- `look_side` meets its contract. The loop's invariant: the results with shifts below l are looked at. Assumes nothing.
 use mathlib.Core.Path.{◌≡◌, refl, subst}
-use Prim.Native.Nat.{ℕ, ◌+◌, ◌-◌, ◌^◌, ◌≤◌}
+use Prim.Native.Nat.{ℕ, ◌+◌}
 use native.Mathlib.Omega.{arith}
-use borrow.Author.Rules.{rules}
 use Rattle.search.specs.Sides.{is_side_to}
 use Rattle.search.specs.Least.{Lowers}
 use Rattle.search.proofs.Least.{side_start, side_more, side_past}

@@ -1,10 +1,7 @@
-use mathlib.Core.Path.{◌≡◌, refl, subst}
-use Prim.Native.Nat.{ℕ, ◌+◌, ◌-◌, ◌^◌, ◌≤◌}
-use native.Mathlib.Omega.{arith}
-use borrow.Author.Rules.{rules}
+use mathlib.Core.Path.{◌≡◌}
+use Prim.Native.Nat.{◌+◌, ◌-◌, ◌^◌, ◌≤◌}
 use Rattle.search.specs.Sides.{is_side_to}
 use Rattle.search.specs.Least.{Lowers}
-use Rattle.search.proofs.Least.{side_start, side_more, side_past}
 use Rattle.search.proofs.serving.look_side.Given as goal
 
 abbrev pub invariant-loop-l : goal.invariant-loop-l

@@ -1,8 +1,7 @@
 -- `look_twice` meets its contract. The loop's invariant: the factors for the shifts 1 .. l are looked at. Assumes nothing.
 use mathlib.Core.Path.{◌≡◌, refl, ap, subst}
-use Prim.Native.Nat.{ℕ, ◌+◌, ◌-◌, ◌≤◌}
+use Prim.Native.Nat.{ℕ, ◌+◌, ◌-◌}
 use native.Mathlib.Omega.{arith}
-use borrow.Author.Rules.{rules}
 use Rattle.search.specs.Sides.{is_twice}
 use Rattle.search.specs.Least.{Lowers}
 use Rattle.search.proofs.Least.{twice_start, twice_more, power_two}

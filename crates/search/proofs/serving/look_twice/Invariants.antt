@@ -1,10 +1,7 @@
-use mathlib.Core.Path.{◌≡◌, refl, ap, subst}
-use Prim.Native.Nat.{ℕ, ◌+◌, ◌-◌, ◌≤◌}
-use native.Mathlib.Omega.{arith}
-use borrow.Author.Rules.{rules}
+use mathlib.Core.Path.{◌≡◌}
+use Prim.Native.Nat.{◌-◌, ◌≤◌}
 use Rattle.search.specs.Sides.{is_twice}
 use Rattle.search.specs.Least.{Lowers}
-use Rattle.search.proofs.Least.{twice_start, twice_more, power_two}
 use Rattle.search.proofs.serving.look_twice.Given as goal
 
 abbrev pub invariant-loop-l : goal.invariant-loop-l

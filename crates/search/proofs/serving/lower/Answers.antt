@@ -1,6 +1,5 @@
 -- `lower` meets its contract: m is out of the bounds, or the map says whether it is marked. Assumes nothing.
 use mathlib.Core.Path.{sym, ◌∙◌}
-use borrow.Author.Rules.{rules}
 use Rattle.search.proofs.Least.{lower_small, lower_great, lower_hit, lower_miss}
 use Rattle.search.proofs.serving.lower.Goals as goal
 

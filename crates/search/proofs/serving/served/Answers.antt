@@ -1,5 +1,4 @@
 -- `served` meets its contract: a value is found below 2 ^ limit exactly if one serves. Assumes nothing.
-use borrow.Author.Rules.{rules}
 use Rattle.search.proofs.Choosing.{served_is}
 use Rattle.search.proofs.serving.served.Goals as goal
 

@@ -1,10 +1,6 @@
 -- `digits_end` meets its contract. The loop's invariant: the run ends where the rest of it does. What is left of the text falls. Assumes nothing.
-use mathlib.Core.Path.{◌≡◌, ◌∙◌, sym}
-use Prim.Native.Nat.{◌+◌, ◌-◌, ◌≤◌}
+use mathlib.Core.Path.{◌∙◌, sym}
 use native.Mathlib.Omega.{arith}
-use lib.ListN.{length, drop}
-use borrow.Author.Tests.{not-true, not-false}
-use Rattle.meaning.specs.Text.{span}
 use Rattle.laws.proofs.Text.Numerals.{span_more, span_stop, span_end}
 use Rattle.text.proofs.decimal.digits_end.Goals as goal
 

@@ -1,10 +1,7 @@
-use mathlib.Core.Path.{◌≡◌, ◌∙◌, sym}
+use mathlib.Core.Path.{◌≡◌}
 use Prim.Native.Nat.{◌+◌, ◌-◌, ◌≤◌}
-use native.Mathlib.Omega.{arith}
 use lib.ListN.{length, drop}
-use borrow.Author.Tests.{not-true, not-false}
 use Rattle.meaning.specs.Text.{span}
-use Rattle.laws.proofs.Text.Numerals.{span_more, span_stop, span_end}
 use Rattle.text.proofs.decimal.digits_end.Given as goal
 
 abbrev pub invariant-loop-i : goal.invariant-loop-i

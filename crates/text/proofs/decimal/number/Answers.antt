@@ -1,7 +1,6 @@
 -- `number` meets its contract: a sign or none, and then digits; there is no number behind the text. Assumes nothing.
 use mathlib.Core.Path.{◌∙◌, sym}
 use Rattle.laws.proofs.Text.Numerals.{number_minus, number_plain, number_none}
-use borrow.Author.Rules.{rules}
 use Rattle.text.proofs.decimal.number.Goals as goal
 
 pub returns-then-s-at-eq45 : goal.returns-then-s-at-eq45

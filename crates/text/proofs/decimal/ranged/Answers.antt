@@ -10,7 +10,6 @@ use mir.ValLaws.{to_z-of_z, to_z_pos}
 use borrow.Author.Tests.{eq-eqb, ne_eqb, le-leb, lt-leb, lt-ltb, le-ltb}
 use Rattle.meaning.specs.declared.Read.TheVariants.{Number}
 use Rattle.meaning.specs.Text.{ranged}
-use borrow.Author.Rules.{rules}
 use Rattle.text.proofs.decimal.ranged.Goals as goal
 
 pub returns-then-v-eq0 : goal.returns-then-v-eq0

@@ -4,10 +4,8 @@ use mathlib.Core.Bool.{true, false}
 use Prim.Native.Nat.{ℕ, ◌-◌}
 use native.Mathlib.Omega.{arith}
 use lib.ListN.{drop, take, get_or}
-use borrow.Author.Tests.{not-true, not-false}
 use Rattle.meaning.specs.Text.{span, value_of, is_plain, ranged}
 use Rattle.laws.proofs.Text.Numerals.{unsigned_none, unsigned_bad, unsigned_good, unsigned_long}
-use borrow.Author.Rules.{rules}
 use Rattle.text.proofs.decimal.unsigned.Goals as goal
 use Rattle.text.proofs.decimal.unsigned.Goals.{After-digits_end-e}
 

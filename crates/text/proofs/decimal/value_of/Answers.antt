@@ -4,8 +4,7 @@ use mathlib.Core.Path.{◌≡◌, refl, ◌∙◌, sym}
 use Prim.Native.Nat.{ℕ, suc, ◌+◌, ◌-◌, ◌*◌, ◌^◌, ◌≤◌, ◌<◌}
 use native.Mathlib.Nat.{pow-suc, pow-le-pow_right}
 use native.Mathlib.Omega.{arith}
-use lib.ListN.{drop, take, get_or}
-use Rattle.meaning.specs.Text.{span, value_of}
+use lib.ListN.{get_or}
 use Rattle.laws.proofs.Text.Numerals.{span_digit, span_more, digit_range, value_more, value_end}
 use Rattle.text.proofs.decimal.value_of.Goals as goal
 use Rattle.text.proofs.decimal.value_of.Goals.{In-loop-i}

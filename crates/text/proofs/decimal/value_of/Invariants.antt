@@ -1,10 +1,7 @@
-use mathlib.Core.Path.{◌≡◌, refl, ◌∙◌, sym}
-use Prim.Native.Nat.{ℕ, suc, ◌+◌, ◌-◌, ◌*◌, ◌^◌, ◌≤◌, ◌<◌}
-use native.Mathlib.Nat.{pow-suc, pow-le-pow_right}
-use native.Mathlib.Omega.{arith}
-use lib.ListN.{drop, take, get_or}
+use mathlib.Core.Path.{◌≡◌}
+use Prim.Native.Nat.{◌+◌, ◌-◌, ◌^◌, ◌≤◌, ◌<◌}
+use lib.ListN.{drop, take}
 use Rattle.meaning.specs.Text.{span, value_of}
-use Rattle.laws.proofs.Text.Numerals.{span_digit, span_more, digit_range, value_more, value_end}
 use Rattle.text.proofs.decimal.value_of.Given as goal
 
 abbrev pub invariant-loop-i : goal.invariant-loop-i

@@ -1,12 +1,10 @@
 -- `line_at` meets its contract. The loop's invariant: what is left of the form decides the rest. What is left of the form falls. Assumes nothing.
-use mathlib.Core.Path.{◌≡◌, refl, ◌∙◌, sym}
-use Prim.Native.Nat.{◌-◌, ◌≤◌}
+use mathlib.Core.Path.{refl, ◌∙◌, sym}
+use Prim.Native.Nat.{◌≤◌}
 use native.Mathlib.Omega.{arith}
-use lib.ListN.{length, get_or, drop}
-use borrow.Author.Rules.{rules}
-use Rattle.meaning.specs.Forms.{line_at}
+use lib.ListN.{get_or}
 use Rattle.laws.proofs.Text.Forms.{taken_most}
-use Rattle.text.specs.Held.{fields_of, rest_of}
+use Rattle.text.specs.Held.{rest_of}
 use Rattle.text.proofs.Rest.{rest_more, rest_end}
 use Rattle.text.proofs.forms.line_at.Goals as goal
 use Rattle.text.proofs.forms.line_at.Goals.{After-taken-n}

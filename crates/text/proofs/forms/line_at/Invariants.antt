@@ -1,12 +1,8 @@
-use mathlib.Core.Path.{◌≡◌, refl, ◌∙◌, sym}
+use mathlib.Core.Path.{◌≡◌}
 use Prim.Native.Nat.{◌-◌, ◌≤◌}
-use native.Mathlib.Omega.{arith}
-use lib.ListN.{length, get_or, drop}
-use borrow.Author.Rules.{rules}
+use lib.ListN.{length, drop}
 use Rattle.meaning.specs.Forms.{line_at}
-use Rattle.laws.proofs.Text.Forms.{taken_most}
 use Rattle.text.specs.Held.{fields_of, rest_of}
-use Rattle.text.proofs.Rest.{rest_more, rest_end}
 use Rattle.text.proofs.forms.line_at.Given as goal
 
 abbrev pub invariant-loop-i : goal.invariant-loop-i

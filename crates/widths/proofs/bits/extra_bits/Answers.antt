@@ -1,7 +1,6 @@
 -- `extra_bits` meets its contract. Assumes nothing.
 use mathlib.Core.Path.{sym, ap}
 use native.Mathlib.Omega.{arith}
-use borrow.Author.Rules.{rules}
 use lib.Count.{leading_le}
 use Rattle.meaning.specs.Widths.{least_from, extra_bits}
 use Rattle.laws.proofs.Widths.Extra.{machine_bits}

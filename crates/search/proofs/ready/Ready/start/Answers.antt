@@ -1,5 +1,4 @@
 -- `Ready::start` meets its contract: the set is the one that starts. Assumes nothing.
-use borrow.Author.Rules.{rules}
 use Rattle.search.specs.Held.{started}
 use Rattle.search.proofs.ReadyLaws.{start_is}
 use Rattle.search.proofs.ready.Ready.start.Goals as goal
