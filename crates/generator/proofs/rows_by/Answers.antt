@@ -39,22 +39,20 @@ limit-limit-requires c = (good (goal.at.limit-limit-requires c).Start).bits.1
 -- the turns may begin, under the limit of b
 ready_for : (c : After-wanted_of) → let a = c.args in Drawable (limit a.b) a.map.now a.out.now (kept c.wanted_of.result)
 ready_for c =
-    let st = c in
     let g = good (goal.at.draw-set-requires c).Start in
     let h = g.bits in
     record {
       least = omega arith;
       most = omega arith;
-      state = st.requires.0;
-      servable = subst⁻¹ (AllServable (limit st.args.b)) (its_list c) (all_servable _ _ g);
-      few = subst⁻¹ (λ (xs : List Row). length xs ≤ most_rows) (its_turns _ _ _ (its_list c)) (few_rows_lem _ _ st.requires.1);
-      words = st.requires.2;
+      state = c.requires.0;
+      servable = subst⁻¹ (AllServable (limit c.args.b)) (its_list c) (all_servable _ _ g);
+      few = subst⁻¹ (λ (xs : List Row). length xs ≤ most_rows) (its_turns _ _ _ (its_list c)) (few_rows_lem _ _ c.requires.1);
+      words = c.requires.2;
     }
 
 pub draw-set-requires : goal.draw-set-requires
 draw-set-requires c =
-    let st = c in
-    let a = st.args in (
+    let a = c.args in (
       subst⁻¹ (λ (L : ℕ). Drawable L a.map.now a.out.now (kept c.wanted_of.result)) c.limit-limit.ensures (ready_for c),
       omega (arith, held_count _ _ (holds c), wanted_length a.ts.now, (good (goal.at.draw-set-requires c).Start).list),
     )
@@ -65,10 +63,9 @@ overflow_cast-result c =
 
 pub returns : goal.returns
 returns c =
-    let st = c in
-    let a = st.args in
+    let a = c.args in
     let done =
-    told_rows a.b a.ts.now (length a.out.now) (c.draw-set.result.count - 1) _ _ (drawn_accepts _ _ _ st.requires.1 st.requires.2)
+    told_rows a.b a.ts.now (length a.out.now) (c.draw-set.result.count - 1) _ _ (drawn_accepts _ _ _ c.requires.1 c.requires.2)
     (omega (arith, c.draw-set.ensures.0, ap length (its_rows (goal.at.returns c).After-wanted_of)))
     (c.draw-set.ensures.1 ∙ ap (λ (xs : List Row). over (flat xs) a.out.now) (its_rows (goal.at.returns c).After-wanted_of)) in
     record { answers = done.answers; writes = done.writes }

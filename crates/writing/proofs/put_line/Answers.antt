@@ -26,8 +26,7 @@ loop-i-init c = (omega arith, omega arith, refl, begin _ _ _ _ (omega arith))
 
 pub piece-at-requires : goal.piece-at-requires
 piece-at-requires c =
-    let l = c in
-    rw (number c) (part_room l.loop-i.invariant.3 c.loop-i-test.true l.requires)
+    rw (number c) (part_room c.loop-i.invariant.3 c.loop-i-test.true c.requires)
 
 pub overflow_add-next : goal.overflow_add-next
 overflow_add-next c = omega (arith, at_most_one c)

@@ -27,8 +27,7 @@ inside : (c : In-loop-k) → c.loop-k.k < length (lines (goal.at.offset_bounds-t
 inside c = omega (arith, count (goal.at.offset_bounds-ts-k c).Start, c.loop-k-test.true)
 
 -- the numbers of the line that is next
-numbers : (c : After-out_line-arg-1) → let f = c in
-    out_numbers (to_z w32 (of_z w32 c.args.input)) c.args.values.now (c.loop-k.k + 1) (to_z w32 (of_z w32 (get_or c.args.ts.now c.loop-k.k (pos 0)))) ≡ get_or (lines (goal.at.overflow_cast-k c).Start) c.loop-k.k []
+numbers : (c : After-out_line-arg-1) → out_numbers (to_z w32 (of_z w32 c.args.input)) c.args.values.now (c.loop-k.k + 1) (to_z w32 (of_z w32 (get_or c.args.ts.now c.loop-k.k (pos 0)))) ≡ get_or (lines (goal.at.overflow_cast-k c).Start) c.loop-k.k []
 numbers c =
     ap (out_numbers (to_z w32 (of_z w32 c.args.input)) c.args.values.now (c.loop-k.k + 1)) (to_z-of_z w32 _ (record { sfits = c.t-1.given }))
     ∙ sym (outs_at (to_z w32 (of_z w32 c.args.input)) c.args.values.now c.args.ts.now c.loop-k.k c.loop-k-test.true)

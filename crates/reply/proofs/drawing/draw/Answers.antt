@@ -42,6 +42,5 @@ sized-requires c =
 
 pub returns-in-Refused : goal.returns-in-Refused
 returns-in-Refused c =
-    let f = c in
-    let e = call_refused _ f.args.ts.now 896 _ (omega arith) (sym c.in-Refused.is ∙ c.generate-drawn.ensures.answers) in
-    same_text (sym (reply_refused (job (goal.at.returns-in-Refused c).Start) _ (ap (λ (b : ℕ). admitted b f.args.ts.now) (sym (bits_are (goal.at.returns-in-Refused c).After-generate-drawn)) ∙ e))) c.refused.ensures
+    let e = call_refused _ c.args.ts.now 896 _ (omega arith) (sym c.in-Refused.is ∙ c.generate-drawn.ensures.answers) in
+    same_text (sym (reply_refused (job (goal.at.returns-in-Refused c).Start) _ (ap (λ (b : ℕ). admitted b c.args.ts.now) (sym (bits_are (goal.at.returns-in-Refused c).After-generate-drawn)) ∙ e))) c.refused.ensures
