@@ -9,6 +9,7 @@ docs/CONTRACTS.md
   behind the lemma, in some paragraph or table row; it declares the lemma, or for `Record.field` the record and its field.
 - Under the heading Exceptions, exactly the public functions that have a `requires`. A name without its crate stands beside the
   one before it.
+Static libraries, NAME_c: the functions of src/lib.rt and their clauses are those of the crate NAME.
 docs/ARCHITECTURE.md: under the heading of layers, each crate of crates.txt once in the second column, and no other.
 README.md: no crates/NAME that is not there."""
 
@@ -27,7 +28,13 @@ def read(path):
 
 def crates():
     lines = (line.split("#")[0] for line in read("crates.txt").splitlines())
-    return [line.split(":")[0].strip() for line in lines if ":" in line]
+    return [line.split(":")[0].split()[0] for line in lines if ":" in line]
+
+
+def static():
+    """The static libraries: their functions are calls of a library's, for C."""
+    lines = (line.split("#")[0] for line in read("crates.txt").splitlines())
+    return [line.split(":")[0].split()[0] for line in lines if "staticlib" in line.split(":")[0].split()]
 
 
 # ---- the tree
@@ -64,11 +71,11 @@ def functions(lines):
 def public():
     """Path of each public function: the words `requires` and `ensures`, as far as it has them."""
     found = {}
-    for crate in crates():
+    for crate in [crate for crate in crates() if crate not in static()]:
         for path, lines in modules(crate):
             for names, is_public, body in functions(lines):
                 if is_public:
-                    words = set(re.findall(r"\b(requires|ensures) \{", "\n".join(body)))
+                    words = set(re.findall(r"\b(requires|ensures)(?: \w+)? \{", "\n".join(body)))
                     found["::".join((crate, *path, *names))] = words
     return found
 
@@ -84,6 +91,12 @@ def declares(text, lemma):
         block = re.search(rf"^(?:pub )?record {re.escape(record)}\b.*\n((?:\s+.*\n|\n)*)", text, re.MULTILINE)
         text = block[1] if block else ""
     return re.search(rf"^\s*(?:pub )?{re.escape(field)} :", text, re.MULTILINE) is not None
+
+
+def calls(crate):
+    """The functions of a library by name: the words between the name and the body, layout aside."""
+    text = re.sub(r"\s+", " ", read(f"crates/{crate}/src/lib.rt"))
+    return {name: head for name, head in re.findall(r'pub (?:extern "C" )?fn (\w+)(\(.*?\}) \{ ', text)}
 
 
 # ---- the papers
@@ -185,6 +198,15 @@ def of_exceptions(paper, found, known):
         yield f"twice among the exceptions: {name}"
 
 
+def of_static():
+    """Each export of NAME_c is the call of the crate NAME, under the same clauses."""
+    for crate in static():
+        ours, theirs = calls(crate), calls(crate.removesuffix("_c"))
+        for name in sorted(ours.keys() | theirs.keys()):
+            if ours.get(name) != theirs.get(name):
+                yield f"not the same in {crate} and {crate.removesuffix('_c')}: {name}"
+
+
 def of_layers(known):
     listed = [name for row in section(read("docs/ARCHITECTURE.md"), "The layers") for name in NAMES.findall(row[1])]
     for name in known:
@@ -203,6 +225,7 @@ def missing():
     yield from of_edits(table, paper, known)
     yield from of_lemmas(table, paper)
     yield from of_exceptions(paper, found, known)
+    yield from of_static()
     yield from of_layers(known)
 
 

@@ -9,8 +9,8 @@ die() { # WORDS..
 rt=$(command -v rt) || die "the Rattle toolchain is missing: its command rt proves and builds"
 
 # Programs and the archive are x86-64. They run as rt runs them: under the kit's loader and C library, and on another processor
-# under the kit's emulator.
-tools=${RATTLE_HOME:-$(dirname "$(dirname "$(readlink -f "$rt")")")}/on/$(uname -m)/toolchain
+# under the kit's emulator, where it has one.
+tools=$(dirname "$("$rt" doc)")/toolchain
 runner=("$tools/lib/ld-linux-x86-64.so.2" --library-path "$tools/lib")
 if [ -x "$tools/bin/qemu-x86_64" ]; then runner=("$tools/bin/qemu-x86_64" "${runner[@]}"); fi
 for name in $(compgen -e QEMU_); do unset "$name"; done # as rt does, for these change the emulator
@@ -27,11 +27,11 @@ need() { # COMMAND PACKAGE..
     apt-get install -q -y "$@" >/dev/null 2>&1 || die "$command is missing, and the packages $* cannot be installed"
 }
 
-# Whether a file is missing, or something in one of the paths is newer. No build reads a crate's must-fail.
+# Whether a file is missing, or something in one of the paths is newer. No build reads a crate's must-fail, and rt writes its out.
 stale() { # FILE PATH..
     local file=$1
     shift
-    [ ! -e "$file" ] || [ -n "$(find "$@" -name must-fail -prune -o -newer "$file" -print -quit)" ]
+    [ ! -e "$file" ] || [ -n "$(find "$@" \( -name must-fail -o -name out \) -prune -o -newer "$file" -print -quit)" ]
 }
 
 # How many crates of the tree the named ones stand on, themselves counted.
@@ -43,7 +43,7 @@ crates_below() { # NAME..
             for (k = split(below[name], list, " "); k > 0; k--) visit(list[k])
         }
         { sub(/#.*/, "") }
-        split($0, part, ":") == 2 { gsub(/[ \t]/, "", part[1]); below[part[1]] = part[2] }
+        split($0, part, ":") == 2 { split(part[1], word, " "); below[word[1]] = part[2] }
         END { for (k = split(names, named, " "); k > 0; k--) visit(named[k]); print count + 0 }' "$root/crates.txt"
 }
 
@@ -61,51 +61,37 @@ follow() { # ALL
     local proved=0 line
     say_far "proving $1 crates (some minutes where none is proved yet)"
     while IFS= read -r line; do
-        if [[ $line =~ ^rt:\ ([a-z0-9_]+)\ proved\ \( ]]; then
+        if [[ $line =~ ^logic=proved ]]; then
             proved=$((proved + 1))
-            case $line in *'(unchanged '*) ;; *) say_far "$proved of $1 crates proved (${BASH_REMATCH[1]})" ;; esac
+            say_far "$proved of $1 crates proved"
         fi
     done
 }
 
-# Proves crates, and what they stand on; a log has what rt printed.
-prove() { # LOG NAME..
-    local log=$1 all status
-    shift
-    all=$(crates_below "$@")
-    mkdir -p "$root/target"
-    (cd "$root" && exec "$rt" check "$@" </dev/null 2>&1) | tee "$log" | follow "$all"
+# Proves a crate and what it stands on, and builds it by `rt lib` or `rt run`; a log has what rt printed. Then a file that this left
+# in the crate's out is copied to a path. A build counts as made when it began, so that a source that changes meanwhile is newer.
+build() { # COMMAND CRATE MADE PATH
+    local log=$root/target/$2.log began all status
+    if ! stale "$4" "$root/crates" "$root/crates.txt"; then return 0; fi
+    began=$(date +@%s.%N)
+    all=$(crates_below "$2")
+    mkdir -p "$(dirname "$4")"
+    (cd "$root/crates/$2" && exec "$rt" "$1" </dev/null 2>&1) | tee "$log" | follow "$all"
     status=${PIPESTATUS[0]}
     end_far
     [ "$status" -eq 0 ] || die "not proved: see ${log#"$root"/}"
-}
-
-# A build counts as made when it began, so that a source that changes meanwhile is newer.
-now() {
-    date +@%s.%N
+    cp "$root/crates/$2/out/$3" "$4" || die "$2 is not built: see ${log#"$root"/}"
+    touch -d "$began" "$4"
 }
 
 # The program of a crate, target/bin/NAME, built anew where a source has changed.
 build_program() { # NAME
-    local program=$root/target/bin/$1 began
-    if ! stale "$program" "$root/crates" "$root/crates.txt"; then return 0; fi
-    began=$(now)
-    prove "$root/target/$1.log" "$1"
-    touch -d "$began" "$program"
+    build run "$1" "$1" "$root/target/bin/$1"
 }
 
-# The library's archive, built anew where a source has changed. What is below it is proved before, since rt staticlib proves
-# one crate at a time.
+# The library's archive, built anew where a source has changed.
 build_archive() {
-    local began log=$root/target/archive.log below
-    if ! stale "$archive" "$root/crates" "$root/crates.txt"; then return 0; fi
-    began=$(now)
-    read -ra below < <(sed -n 's/^exports://p' "$root/crates.txt")
-    prove "$log" "${below[@]}"
-    say_far "building the archive"
-    (cd "$root" && "$rt" staticlib exports </dev/null) >>"$log" 2>&1 || die "the archive is not built: see ${log#"$root"/}"
-    end_far
-    touch -d "$began" "$archive"
+    build lib exports_c libexports_c.a "$archive"
 }
 
 # Compiles C over include/tauwaage.h; the compiler's further words stand behind the program's name.
