@@ -1,7 +1,7 @@
 /* tauwaage.h: the calls of Tauwaage for C and for every language that can call C.
  *
- * Build the archive with `rt staticlib exports` and link target/staticlib/libexports.a (x86-64 Linux); it needs nothing
- * but the C library. examples/c/ has a program, and a script that builds and runs it.
+ * Build the archive with tools/archive and link target/staticlib/libexports.a (x86-64 Linux); it needs nothing but the C
+ * library. examples/c/ has a program, and a script that builds and runs it.
  *
  * The words that recur (docs/MANUAL.md explains them):
  *   targets  1 to 16 signed 32-bit constants;
