@@ -1,5 +1,5 @@
 -- Condition 3: the generator's graphs, and the distance test. Assumes nothing.
-use Rattle.std.specs.Prelude.{◌≡◌, ◌↔◌, ℕ, ◌-◌, ◌*◌, ◌≤◌, ℤ, length, drop}
+use Rattle.std.specs.Prelude.{◌≡◌, ◌↔◌, ℕ, ◌*◌, ◌≤◌, ℤ, length, drop}
 use mathlib.Core.List.{List, [], ◌∷◌, Memᴰ}
 use Rattle.meaning.specs.declared.Answer.TheVariants.{Accepted}
 use Rattle.meaning.specs.declared.Drawn.{Drawn}

@@ -5,7 +5,6 @@ use mathlib.Core.Bool.{Bool, true}
 use mathlib.Core.List.{List}
 use Prim.Native.Nat.{ℕ, ◌^◌, ◌≤◌}
 use native.Mathlib.Omega.{arith}
-use borrow.Author.Rules.{rules}
 use lib.ListN.{length, take}
 use lib.Seq.{take-length}
 use lib.Pow.{pow_mono}
@@ -42,9 +41,6 @@ told c = distance_told_lem _ _ _ (sym c.admit-answer.ensures ∙ c.in_default.is
 pub returns-in-Refused : goal.returns-in-Refused
 returns-in-Refused c =
     sym (distance_refused _ _ _ _ (sym c.admit-answer.ensures ∙ c.in-Refused.is))
-
-pub enum_told-1 : goal.enum_told-1
-enum_told-1 c = search rules
 
 pub returns-then-has : goal.returns-then-has
 returns-then-has c =

@@ -19,9 +19,6 @@ fit2 c = search rules
 few : (c : In-Accepted) → c.args.rows ≤ most_rows
 few c = measured_rows _ _ _ _ _ _ (sym c.measure-answer.ensures.answers ∙ c.in-Accepted.is)
 
-pub enum_told-1 : goal.enum_told-1
-enum_told-1 c = search rules
-
 pub overflow_add-rows : goal.overflow_add-rows
 overflow_add-rows c = omega (arith, few c)
 

@@ -4,7 +4,6 @@ use mathlib.Core.Path.{◌≡◌, sym, ap, ◌∙◌}
 use mathlib.Core.List.{[]}
 use Prim.Native.Nat.{ℕ, ◌≤◌}
 use native.Mathlib.Omega.{arith}
-use borrow.Author.Rules.{rules}
 use Rattle.meaning.specs.declared.Answer.TheVariants.{Accepted}
 use Rattle.meaning.specs.declared.Refusal.TheVariants as no
 use Rattle.meaning.specs.Limits.{limit}
@@ -24,9 +23,6 @@ accepts c = sym c.admit-answer.ensures ∙ c.in_default.is
 pub returns-in-Refused : goal.returns-in-Refused
 returns-in-Refused c =
     told_refused _ _ _ _ _ (drawn_stops _ _ _ _ (sym c.admit-answer.ensures ∙ c.in-Refused.is))
-
-pub enum_told-1 : goal.enum_told-1
-enum_told-1 c = search rules
 
 pub returns-then-out-lt-FULL_LENGTH : goal.returns-then-out-lt-FULL_LENGTH
 returns-then-out-lt-FULL_LENGTH c = told_refused _ _ _ no.Buffer _ (drawn_short _ _ _ (accepts (goal.at.returns-then-out-lt-FULL_LENGTH c).In_default) (omega (arith, c.if-out-lt-FULL_LENGTH.true)))

@@ -57,9 +57,6 @@ counted c =
     let a = c.args in
     past (goal.at.valid_rows-valid-requires c).In-Accepted ∙ passes no.RowCount (row_tests a.n a.words.now) (later a.ts.now a.n a.words.now a.b) (fits c)
 
-pub enum_told-1 : goal.enum_told-1
-enum_told-1 c = search rules
-
 pub returns-in_default : goal.returns-in_default
 unfolding checked
 returns-in_default c =

@@ -21,9 +21,6 @@ past c =
     let a = c.args in
     passes_on (check_order a.b a.ts.now a.n a.words.now) (input_width a.input ∷ []) _ (in_order (goal.at.within-requires c).After-check-checked) c.in-Accepted.is
 
-pub enum_told-1 : goal.enum_told-1
-enum_told-1 c = search rules
-
 pub returns-in_default : goal.returns-in_default
 unfolding sized
 returns-in_default c =

@@ -1,12 +1,8 @@
 -- `number_line` meets its contract: the first of the line's numbers. Assumes nothing.
 use mir.Syntax.{w32}
 use mir.ValLaws.{to_z-of_z}
-use borrow.Author.Rules.{rules}
 use Rattle.job.proofs.Lines.{one_good, one_bad}
 use Rattle.job.proofs.number_line.Goals as goal
-
-pub enum_told-1 : goal.enum_told-1
-enum_told-1 c = search rules
 
 pub returns-in_default : goal.returns-in_default
 returns-in_default c = one_bad _ _ c.line_at-line.ensures c.in_default.is

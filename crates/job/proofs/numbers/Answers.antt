@@ -39,9 +39,6 @@ feed c = let h = stands_within (bytes "\n") _ _ (sym c.is-then-not-is.ensures âˆ
 pub loop-z-init : goal.loop-z-init
 loop-z-init c = (omega arith, refl, rw sub-zero refl)
 
-pub enum_told-1 : goal.enum_told-1
-enum_told-1 c = search rules
-
 pub returns-in_default : goal.returns-in_default
 returns-in_default c =
     let e = numbers_none _ _ _ (sym c.number.ensures âˆ™ c.in_default.is) in

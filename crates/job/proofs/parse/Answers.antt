@@ -36,9 +36,6 @@ pub returns-then-s-gt-JOB_BYTES : goal.returns-then-s-gt-JOB_BYTES
 unfolding job_of
 returns-then-s-gt-JOB_BYTES c = c.malformed.ensures ∙ rw (lt-leb _ _ c.if-s-gt-JOB_BYTES.true) refl
 
-pub enum_told-1 : goal.enum_told-1
-enum_told-1 c = search rules
-
 pub returns-in_default : goal.returns-in_default
 unfolding job_of
 returns-in_default c =
@@ -74,9 +71,3 @@ returns c =
     let w = to_z-of_z w32 c.in-Number-number_line.input (search rules) in
     rw (short (goal.at.returns c).Else-s-gt-JOB_BYTES, line1 (goal.at.returns c).In-Number, line2 (goal.at.returns c).In-Number-number_line, line3 (goal.at.returns c).In-By, b, w)
     (targets_all c.args.s.now _ _ _ _ _ _ _ c.targets_line-found.ensures c.in-Listed.is c.if-at-s.false)
-
-pub report_line-requires : goal.report_line-requires
-report_line-requires c = search rules
-
-pub targets_line-found-requires : goal.targets_line-found-requires
-targets_line-found-requires c = search rules

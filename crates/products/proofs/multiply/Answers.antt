@@ -1,6 +1,5 @@
 -- `multiply` meets its contract: as check, then 4; the targets' products over the front. Assumes nothing.
 use mathlib.Core.Path.{◌≡◌, sym, ◌∙◌}
-use borrow.Author.Rules.{rules}
 use lib.ListN.{length}
 use mir.Syntax.{w32}
 use mir.ValLaws.{to_z-of_z}
@@ -12,9 +11,6 @@ use Rattle.products.proofs.multiply.Goals.{After-check-checked}
 in_order : (c : After-check-checked) → let a = c.args in c.check-checked.result ≡ first_of (check_order a.b a.ts.now a.n a.words.now)
 unfolding checked
 in_order c = c.check-checked.ensures
-
-pub enum_told-1 : goal.enum_told-1
-enum_told-1 c = search rules
 
 pub returns-in_default : goal.returns-in_default
 unfolding multiplied products_written

@@ -3,7 +3,6 @@ use mathlib.Core.Path.{◌≡◌, sym, ap, ◌∙◌}
 use mathlib.Core.List.{map}
 use Prim.Native.Nat.{◌+◌}
 use native.Mathlib.Omega.{arith}
-use borrow.Author.Rules.{rules}
 use lib.ListN.{length, length-map}
 use Rattle.meaning.specs.Basics.{over_at}
 use Rattle.meaning.specs.Graph.{rows, values}
@@ -23,9 +22,6 @@ in_order c = c.check_width-sized.ensures
 
 good : (c : In-Accepted) → let a = c.args in GoodWidth a.b a.ts.now a.n a.words.now a.input
 good c = sized_of _ _ _ _ _ (sym c.check_width-sized.ensures ∙ c.in-Accepted.is)
-
-pub enum_told-1 : goal.enum_told-1
-enum_told-1 c = search rules
 
 pub returns-in_default : goal.returns-in_default
 unfolding measured widths_written

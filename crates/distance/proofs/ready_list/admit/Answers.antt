@@ -4,7 +4,6 @@ use mathlib.Core.Bool.{Bool, true}
 use mathlib.Core.List.{List, [], ◌∷◌}
 use Prim.Native.Nat.{ℕ, ◌%◌, ◌^◌, ◌≤◌}
 use native.Mathlib.Omega.{arith}
-use borrow.Author.Rules.{rules}
 use lib.Dec.{eqb, ltb, leb→le}
 use lib.ListN.{length}
 use Rattle.meaning.specs.declared.Refusal.TheVariants as no
@@ -67,9 +66,6 @@ pub ready_values-values-requires : goal.ready_values-values-requires
 ready_values-values-requires c =
     let q = all_of (lengths c.args.vals.now) (T_of (lengths_hold c)) in
     (small (goal.at.ready_values-values-requires c).Else-not-within, leb→le _ _ q.1.0)
-
-pub enum_told-1 : goal.enum_told-1
-enum_told-1 c = search rules
 
 pub returns-in_default : goal.returns-in_default
 returns-in_default c =

@@ -12,9 +12,6 @@ use Rattle.exports.proofs.codes.of_answer.Goals.{After-refused}
 fit : (c : After-refused) → SFits w64 c.refused.result
 fit c = search rules
 
-pub enum_told-1 : goal.enum_told-1
-enum_told-1 c = search rules
-
 pub overflow_cast-result : goal.overflow_cast-result
 overflow_cast-result c = omega (arith, c.requires c.in-Accepted.is)
 

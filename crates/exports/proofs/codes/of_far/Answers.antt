@@ -11,9 +11,6 @@ use Rattle.exports.proofs.codes.of_far.Goals.{After-refused}
 fit : (c : After-refused) → SFits w64 c.refused.result
 fit c = search rules
 
-pub enum_told-1 : goal.enum_told-1
-enum_told-1 c = search rules
-
 pub returns-in-Zero : goal.returns-in-Zero
 unfolding far_code
 returns-in-Zero c = sym (ap far_code c.in-Zero.is)

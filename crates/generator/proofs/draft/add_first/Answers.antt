@@ -6,12 +6,8 @@ use Rattle.meaning.specs.Generator.{row_for}
 use Rattle.meaning.specs.Operation.{Odd}
 use Rattle.generator.specs.Growth.{drawn_rows, Grown, at_most_one}
 use Rattle.generator.proofs.DraftLaws.{missing_is, found_is, row_missing, row_there, grown_none}
-use borrow.Author.Rules.{rules}
 use Rattle.generator.proofs.draft.add_first.Goals as goal
 use Rattle.generator.proofs.draft.add_first.Goals.{After-row_of-row}
-
-pub enum_told-1 : goal.enum_told-1
-enum_told-1 c = search rules
 
 pub returns-in_default : goal.returns-in_default
 returns-in_default c =

@@ -1,7 +1,6 @@
 -- `choice_for` meets its contract. The loop's invariant: the u indices passed give nothing, so that the answer for all is that for those left.
 -- What is left of them falls. Assumes nothing.
 use native.Mathlib.Omega.{arith}
-use borrow.Author.Rules.{rules}
 use lib.ListN.{take}
 use Rattle.meaning.specs.Generator.{choice_for}
 use Rattle.generator.specs.Search.{from_choice}
@@ -10,9 +9,6 @@ use Rattle.generator.proofs.first_choice.choice_for.Goals as goal
 
 pub loop-i-init : goal.loop-i-init
 loop-i-init c = let a = c.args in (omega arith, rows_start a.limit a.ready.now a.n a.c c.requires.inside)
-
-pub enum_told-1 : goal.enum_told-1
-enum_told-1 c = search rules
 
 pub returns-in_default : goal.returns-in_default
 returns-in_default c =

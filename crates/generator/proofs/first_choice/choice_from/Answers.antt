@@ -2,7 +2,6 @@
 -- What is left of them falls. Assumes nothing.
 use mathlib.Core.Path.{◌≡◌, ap, ◌∙◌}
 use native.Mathlib.Omega.{arith}
-use borrow.Author.Rules.{rules}
 use lib.ListN.{take}
 use Rattle.generator.specs.Search.{found, pair_choice, pair_at, from_choice}
 use Rattle.generator.proofs.FirstChoice.{going_on, going_hit, going_end, from_start, pair_taken}
@@ -23,9 +22,6 @@ loop-j-init c =
 
 pub pair_choice-f-requires : goal.pair_choice-f-requires
 pair_choice-f-requires c = let p = c.requires.0 in record { limit = p.limit; below = p.wanted.1 }
-
-pub enum_told-1 : goal.enum_told-1
-enum_told-1 c = search rules
 
 pub returns-in_default : goal.returns-in_default
 returns-in_default c =

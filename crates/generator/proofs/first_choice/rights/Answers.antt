@@ -2,16 +2,12 @@
 -- What is left of them falls. Assumes nothing.
 use Prim.Native.Nat.{◌+◌}
 use native.Mathlib.Omega.{arith}
-use borrow.Author.Rules.{rules}
 use Rattle.generator.specs.Search.{sign_choice, right_choice}
 use Rattle.generator.proofs.FirstChoice.{going_on, going_hit, going_end, right_start}
 use Rattle.generator.proofs.first_choice.rights.Goals as goal
 
 pub loop-l-init : goal.loop-l-init
 loop-l-init c = (omega arith, omega arith, right_start c.args.p)
-
-pub enum_told-1 : goal.enum_told-1
-enum_told-1 c = search rules
 
 pub returns-in_default : goal.returns-in_default
 returns-in_default c =

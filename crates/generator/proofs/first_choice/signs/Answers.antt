@@ -1,12 +1,8 @@
 -- `signs` meets its contract: the first of the two. Assumes nothing.
 use mathlib.Core.Path.{◌∙◌}
-use borrow.Author.Rules.{rules}
 use Rattle.generator.specs.Search.{choice_of}
 use Rattle.generator.proofs.FirstChoice.{step_first, step_second, sign_is}
 use Rattle.generator.proofs.first_choice.signs.Goals as goal
-
-pub enum_told-1 : goal.enum_told-1
-enum_told-1 c = search rules
 
 pub returns-in_default : goal.returns-in_default
 returns-in_default c =

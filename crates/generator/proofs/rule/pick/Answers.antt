@@ -55,9 +55,6 @@ returns-in-At c before e =
     picked_at a.limit before (kept a.w) _ (drop (c.loop-i.i + 1) (kept a.w)) (next (goal.at.returns-in-At c).In-loop-i before e) _ c.choose-choice.result _ _
     (member (goal.at.returns-in-At c).In-loop-i) (chosen (goal.at.returns-in-At c).After-choose-choice before e) c.in-At.is
 
-pub enum_told-1 : goal.enum_told-1
-enum_told-1 c = search rules
-
 pub loop-i-preserved : goal.loop-i-preserved
 loop-i-preserved c =
     let a = c.args in (

@@ -89,9 +89,6 @@ returns-in-At c =
     subst⁻¹ (λ (xs : List Row). Grown a.limit a.set xs c.add_first.result c.add_first.new.map a.out.now c.add_first.new.out)
     (added_by_a (goal.at.returns-in-At c).In-At) c.add_first.ensures
 
-pub enum_told-1 : goal.enum_told-1
-enum_told-1 c = search rules
-
 pub pick-requires : goal.pick-requires
 pick-requires c =
     (record { state = c.requires.room.state; limit = c.requires.limit; servable = c.requires.servable; far = (none_near c).1 }, c.requires.few)

@@ -1,12 +1,8 @@
 -- `agrees` meets its contract: what the operation makes is held to the row's r and value. Assumes nothing.
 use mathlib.Core.Path.{sym, ◌∙◌}
 use native.Mathlib.Omega.{arith}
-use borrow.Author.Rules.{rules}
 use Rattle.graph.proofs.ValidRowLaws.{agrees_invalid, agrees_other, agrees_value}
 use Rattle.graph.proofs.valid_row.agrees.Goals as goal
-
-pub enum_told-1 : goal.enum_told-1
-enum_told-1 c = search rules
 
 pub returns-in_default : goal.returns-in_default
 returns-in_default c = agrees_invalid _ _ _ _ _ _ _ _ (sym c.operate-made.ensures ∙ c.in_default.is)

@@ -9,9 +9,6 @@ use Rattle.text.specs.Held.{step_of}
 use borrow.Author.Rules.{rules}
 use Rattle.text.proofs.forms.step.Goals as goal
 
-pub enum_told-1 : goal.enum_told-1
-enum_told-1 c = search rules
-
 pub returns-in_default : goal.returns-in_default
 unfolding step_of
 returns-in_default c = rw c.in_default.is refl
