@@ -1,4 +1,5 @@
-"""Prints the tables of docs/GATE.md from what rt ci printed: gate_seconds.py LOG. A gate's whole log will do."""
+"""Prints the tables of docs/GATE.md from what the rt ci of a kit before rattle-kit-13f printed: gate_seconds.py LOG. A gate's whole
+log will do. Later kits print no seconds."""
 
 import re
 import sys
