@@ -22,7 +22,7 @@ EDITS = os.path.join(ROOT, "tests", "wrong")
 CRATES = ["meaning", "laws", "tender"]
 PROVERS = min(4, os.cpu_count() or 1)
 # What only says that a text is not in order.
-NOT_A_FACT = re.compile(r"not in scope|expected `|cannot go on|no `mod`|has no `|cannot be named|is not a constructor")
+NOT_A_FACT = re.compile(r"not in scope|expected `|cannot go on|no `mod`|has no (field )?`|can(not)? be named|is not a constructor")
 
 
 def read_edit(name):

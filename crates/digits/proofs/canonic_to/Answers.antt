@@ -15,8 +15,7 @@ returns-then-out-lt2 c = form_refused _ c.args.out.now (omega arith)
 pub returns : goal.returns
 unfolding over
 returns c =
-    let s = c.before.before.before in
-    let out = s.args.out.now in
+    let out = c.args.out.now in
     let room : 2 ≤ length out = omega arith in
-    let w = held_words (rw (to_z-of_z w32 _ s.ranges.t) at c.places_of-places.ensures) in
+    let w = held_words (rw (to_z-of_z w32 _ c.ranges.t) at c.places_of-places.ensures) in
     form_done _ _ out _ room (omega arith) (rw (front_two 0 out room) (two_words (omega arith) (omega arith)))

@@ -9,8 +9,7 @@ use Rattle.digits.proofs.minus_places.Goals.{After-sign}
 
 turn : (c : After-sign) → let l = c.loop-rest in Turn l.minus l.power c.sign.result
 turn c =
-    let l = c.before.before in
-    add_low l.args.n _ _ _ _ l.loop-rest.invariant (omega arith) (omega arith) c.sign.ensures
+    add_low c.args.n _ _ _ _ c.loop-rest.invariant (omega arith) (omega arith) c.sign.ensures
 
 pub loop-rest-init : goal.loop-rest-init
 loop-rest-init c = record { whole = omega arith; reach = omega arith }

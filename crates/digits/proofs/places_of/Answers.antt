@@ -7,22 +7,19 @@ use Rattle.digits.proofs.places_of.Goals as goal
 use Rattle.digits.proofs.places_of.Goals.{After-minus_places-low}
 
 -- of t itself: a signed argument comes back through its bits
-found : (c : After-minus_places-low) → let m = c.before.before in Found m.args.t m.magnitude-n.result c.minus_places-low.result c.nonzero_digits-count.result
+found : (c : After-minus_places-low) → Found c.args.t c.magnitude-n.result c.minus_places-low.result c.nonzero_digits-count.result
 found c =
-    let m = c.before.before in
-    record { size = rw (to_z-of_z w32 _ m.ranges.t) at m.magnitude-n.ensures; minus = c.minus_places-low.ensures; digits = c.nonzero_digits-count.ensures }
+    record { size = rw (to_z-of_z w32 _ c.ranges.t) at c.magnitude-n.ensures; minus = c.minus_places-low.ensures; digits = c.nonzero_digits-count.ensures }
 
 pub overflow_add-high : goal.overflow_add-high
 overflow_add-high c = omega (arith, found_fits _ _ _ _ (found c) c.ranges.t)
 
 pub returns-then-t-lt0 : goal.returns-then-t-lt0
 returns-then-t-lt0 c =
-    let s = c.before.before.before.before in
-    let w = found_below _ _ _ _ (found (goal.at.returns-then-t-lt0 c).After-minus_places-low) (rw (to_z-of_z w32 _ s.ranges.t) at c.if-t-lt0.true) in
+    let w = found_below _ _ _ _ (found (goal.at.returns-then-t-lt0 c).After-minus_places-low) (rw (to_z-of_z w32 _ c.ranges.t) at c.if-t-lt0.true) in
     words_held (record { plus = omega arith; minus = omega arith; digits = omega arith })
 
 pub returns : goal.returns
 returns c =
-    let s = c.before.before.before.before in
-    let w = found_above _ _ _ _ (found (goal.at.returns c).After-minus_places-low) (rw (to_z-of_z w32 _ s.ranges.t) at c.if-t-lt0.false) in
+    let w = found_above _ _ _ _ (found (goal.at.returns c).After-minus_places-low) (rw (to_z-of_z w32 _ c.ranges.t) at c.if-t-lt0.false) in
     words_held (record { plus = omega arith; minus = omega arith; digits = omega arith })

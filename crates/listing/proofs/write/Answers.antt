@@ -17,12 +17,11 @@ vals_are : (c : After-values) → let a = c.args in take a.n c.values.new.out �
 vals_are c = let a = c.args in front_of _ _ _ a.n (length_values (rows a.n a.words.now) ∙ length_rows a.n a.words.now) c.values.ensures
 
 -- and the order of their lines
-order_is : (c : After-arrange) → let a = c.args in
+order_is : (c : After-arrange) → let a = c.args in take a.n c.values.new.out ≡ values (rows a.n a.words.now) →
     take a.n c.arrange.new.order ≡ row_order a.head.by_width (values (rows a.n a.words.now))
-order_is c =
+order_is c vals =
     let a = c.args in
     let xs = values (rows a.n a.words.now) in
-    let vals : take a.n c.values.new.out ≡ xs = front_of _ _ _ a.n (length_values (rows a.n a.words.now) ∙ length_rows a.n a.words.now) c.values.ensures in
     front_of _ _ _ a.n (order_length a.head.by_width xs ∙ length_values (rows a.n a.words.now) ∙ length_rows a.n a.words.now)
     (rw vals at c.arrange.ensures)
 
@@ -57,18 +56,22 @@ slice_bounds-print-end-2 c =
 
 pub print-requires : goal.print-requires
 print-requires c =
+    let made = vals_are (goal.at.print-requires c).After-values in
+    let order = order_is (goal.at.print-requires c).After-arrange made in
     let a = c.args in
     let p = c.requires in
-    let n = order_count a.head a.ts.now a.n a.words.now _ (take a.n c.values.new.out) (order_is (goal.at.print-requires c).After-arrange) in
-    let vals = ap length (vals_are (goal.at.print-requires c).After-values) ∙ length_values (rows a.n a.words.now) ∙ length_rows a.n a.words.now in
+    let n = order_count a.head a.ts.now a.n a.words.now _ (take a.n c.values.new.out) order in
+    let vals = ap length made ∙ length_values (rows a.n a.words.now) ∙ length_rows a.n a.words.now in
     record {
       few = omega (arith, n, p.few);
-      in_rows = order_rows a.head a.ts.now a.n a.words.now _ (take a.n c.values.new.out) (order_is (goal.at.print-requires c).After-arrange) p.within;
+      in_rows = order_rows a.head a.ts.now a.n a.words.now _ (take a.n c.values.new.out) order p.within;
       in_outs = record { values = omega (arith, vals, p.few); targets = p.targets };
-      fits = rw (printed_is a.head a.ts.now a.n a.words.now _ _ (order_is (goal.at.print-requires c).After-arrange) (vals_are (goal.at.print-requires c).After-values)) p.fits;
+      fits = rw (printed_is a.head a.ts.now a.n a.words.now _ _ order made) p.fits;
     }
 
 pub returns : goal.returns
 returns c =
+    let made = vals_are (goal.at.returns c).After-values in
+    let order = order_is (goal.at.returns c).After-arrange made in
     let a = c.args in
-    same_text (printed_is a.head a.ts.now a.n a.words.now _ _ (order_is (goal.at.returns c).After-arrange) (vals_are (goal.at.returns c).After-values)) c.print.ensures
+    same_text (printed_is a.head a.ts.now a.n a.words.now _ _ order made) c.print.ensures

@@ -33,8 +33,7 @@ made-requires c = omega (arith, small (goal.at.made-requires c).Else-not-within,
 pub returns : goal.returns
 unfolding operated_under
 returns c =
-    let e = c.before.before in
-    let s = e.args in
+    let s = c.args in
     c.made.ensures
     ∙ ap (λ L. operated L s.u s.v s.l1 s.l2 s.s) c.limit-limit.ensures
     ∙ sym (ap (λ t. cond t (operated (limit s.b) s.u s.v s.l1 s.l2 s.s) Invalid) (in_range (goal.at.returns c).Else-not-within))

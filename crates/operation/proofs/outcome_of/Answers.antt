@@ -37,8 +37,7 @@ overflow_shr-value c = below c
 
 pub returns-then-limit-value : goal.returns-then-limit-value
 returns-then-limit-value c =
-    let s = c.before.before.before in
-    sym (outcome_over _ _ (rw (count (goal.at.returns-then-limit-value c).Else-m-eq0, mag_is (goal.at.returns-then-limit-value c).After-magnitude64-m, power _ s.requires) at c.if-limit-value.true))
+    sym (outcome_over _ _ (rw (count (goal.at.returns-then-limit-value c).Else-m-eq0, mag_is (goal.at.returns-then-limit-value c).After-magnitude64-m, power _ c.requires) at c.if-limit-value.true))
 
 pub overflow_cast-result : goal.overflow_cast-result
 overflow_cast-result c =
@@ -47,6 +46,5 @@ overflow_cast-result c =
 
 pub returns : goal.returns
 returns c =
-    let s = c.before.before.before in
-    rw (to_z-of_z w64 _ s.ranges.n, count (goal.at.returns c).Else-m-eq0, mag_is (goal.at.returns c).After-magnitude64-m)
-    (sym (outcome_made s.args.limit s.args.n (omega (arith, mag_is (goal.at.returns c).After-magnitude64-m, c.if-m-eq0.false)) (rw (count (goal.at.returns c).Else-m-eq0, mag_is (goal.at.returns c).After-magnitude64-m, power _ s.requires) at c.if-limit-value.false)))
+    rw (to_z-of_z w64 _ c.ranges.n, count (goal.at.returns c).Else-m-eq0, mag_is (goal.at.returns c).After-magnitude64-m)
+    (sym (outcome_made c.args.limit c.args.n (omega (arith, mag_is (goal.at.returns c).After-magnitude64-m, c.if-m-eq0.false)) (rw (count (goal.at.returns c).Else-m-eq0, mag_is (goal.at.returns c).After-magnitude64-m, power _ c.requires) at c.if-limit-value.false)))

@@ -13,5 +13,4 @@ row_value w i (suc k) z h = sym (value_is i w k (omega arith) ∙ ap (λ j. (row
 
 pub returns : goal.returns
 returns c =
-    let a = c.before.before.before in
-    c.value_after.ensures ∙ row_value a.args.words.now a.args.i a.args.index c.if-index-eq0.false a.requires.0
+    c.value_after.ensures ∙ row_value c.args.words.now c.args.i c.args.index c.if-index-eq0.false c.requires.0

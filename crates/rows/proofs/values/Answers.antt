@@ -20,13 +20,12 @@ loop-i-init c = (omega arith, refl, refl)
 
 pub loop-i-preserved : goal.loop-i-preserved
 loop-i-preserved c =
-    let s = c.before.before in
-    let a = s.args in
-    let inv = s.loop-i.invariant in (
+    let a = c.args in
+    let inv = c.loop-i.invariant in (
       omega arith,
       simp length-set inv.1,
-      ap₂ (λ l v. set l s.loop-i.i v) inv.2 (c.value_after.ensures ∙ sym (value_is a.n a.words.now s.loop-i.i c.loop-i-test.true))
-          ∙ over_taken (values (rows a.n a.words.now)) 0 a.out.now s.loop-i.i (omega (arith, count_is a.n a.words.now)) (omega arith),
+      ap₂ (λ l v. set l c.loop-i.i v) inv.2 (c.value_after.ensures ∙ sym (value_is a.n a.words.now c.loop-i.i c.loop-i-test.true))
+          ∙ over_taken (values (rows a.n a.words.now)) 0 a.out.now c.loop-i.i (omega (arith, count_is a.n a.words.now)) (omega arith),
     )
 
 pub returns : goal.returns

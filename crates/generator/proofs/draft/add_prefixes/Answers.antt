@@ -15,10 +15,10 @@ use Rattle.generator.proofs.DraftLaws.{part_start, part_open, part_more, part_en
 use Rattle.generator.proofs.draft.add_prefixes.Goals as goal
 use Rattle.generator.proofs.draft.add_prefixes.Goals.{After-prefixes_of-ps, In-loop-i}
 
--- what the prefixes are, and the one at a place
-its_count : (c : After-prefixes_of-ps) → c.prefixes_of-ps.result.count ≡ length (prefixes c.args.c)
+-- how many the prefixes are, and the one at a place
+count_is : (r : Prefixes) (k : ℕ) → r ≡ prefixes_held k → r.count ≡ length (prefixes k)
 unfolding prefixes_held
-its_count c = ap (λ (r : Prefixes). r.count) c.prefixes_of-ps.ensures
+count_is r k e = ap (λ (p : Prefixes). p.count) e
 
 its_place : (c : After-prefixes_of-ps) (i : ℕ) → i < length (prefixes c.args.c)
     → get_or c.prefixes_of-ps.result.list i nothing ≡ get_or (prefixes c.args.c) i nothing
@@ -26,8 +26,7 @@ unfolding prefixes_held
 its_place c i h = ap (λ (r : Prefixes). get_or r.list i nothing) c.prefixes_of-ps.ensures ∙ held_at _ i nothing h
 
 inside : (c : In-loop-i) → c.loop-i.i < length (prefixes c.args.c)
-unfolding prefixes_held
-inside c = let e = ap (λ (r : Prefixes). r.count) c.prefixes_of-ps.ensures in omega (arith, e, c.loop-i-test.true)
+inside c = omega (arith, count_is _ _ c.prefixes_of-ps.ensures, c.loop-i-test.true)
 
 pub loop-i-init : goal.loop-i-init
 loop-i-init c = (omega arith, part_start c.requires.0, refl, refl)
@@ -58,4 +57,4 @@ loop-i-preserved c =
 
 pub returns : goal.returns
 returns c =
-    part_end c.requires.0 c.loop-i.invariant.1 (omega (arith, its_count (goal.at.returns c).After-prefixes_of-ps, c.loop-i-test.false))
+    part_end c.requires.0 c.loop-i.invariant.1 (omega (arith, count_is _ _ c.prefixes_of-ps.ensures, c.loop-i-test.false))

@@ -44,27 +44,21 @@ first_row c = at_most_one (row_for c.args.limit (drawn_rows c.args.set c.args.ou
 abbrev second_row : In-By → List Row
 second_row c = at_most_one (row_for c.args.limit (drawn_rows c.args.set c.args.out.now ++ first_row c) c.in-By.c)
 
-added_by_b : (c : In-By) → added c.args.limit (drawn_rows c.args.set c.args.out.now) (kept c.args.w) ≡ first_row c ++ second_row c
-added_by_b c =
-    let n : (rule_a c.args.limit (drawn_rows c.args.set c.args.out.now) (kept c.args.w) ≡ none) × NoneNear c.args.limit (listed c.args.set) (kept c.args.w) =
-    near_nothing _ _ _ _ c.requires.room.state _ c.requires.room.same _ c.requires.servable (sym c.nearest.ensures ∙ c.in_default.is) in
-    added_b _ _ _ _ n.0 (picked_is c).rows
+added_by_b : (c : In-By) → rule_a c.args.limit (drawn_rows c.args.set c.args.out.now) (kept c.args.w) ≡ none
+    → added c.args.limit (drawn_rows c.args.set c.args.out.now) (kept c.args.w) ≡ first_row c ++ second_row c
+added_by_b c n = added_b _ _ _ _ n (picked_is c).rows
 
-two : (c : In-By) → length (added c.args.limit (drawn_rows c.args.set c.args.out.now) (kept c.args.w)) ≡ 2
-two c =
-    let n : (rule_a c.args.limit (drawn_rows c.args.set c.args.out.now) (kept c.args.w) ≡ none) × NoneNear c.args.limit (listed c.args.set) (kept c.args.w) =
-    near_nothing _ _ _ _ c.requires.room.state _ c.requires.room.same _ c.requires.servable (sym c.nearest.ensures ∙ c.in_default.is) in
-    added_two _ _ _ _ _ n.0 (picked_is c)
+two : (c : In-By) → rule_a c.args.limit (drawn_rows c.args.set c.args.out.now) (kept c.args.w) ≡ none
+    → length (added c.args.limit (drawn_rows c.args.set c.args.out.now) (kept c.args.w)) ≡ 2
+two c n = added_two _ _ _ _ _ n (picked_is c)
 
-added_by_c : (c : In_default-pick) →
-    added c.args.limit (drawn_rows c.args.set c.args.out.now) (kept c.args.w) ≡ rule_c (drawn_rows c.args.set c.args.out.now) (prefixes (get_or c.args.w.values 0 0))
-added_by_c c =
-    let n : (rule_a c.args.limit (drawn_rows c.args.set c.args.out.now) (kept c.args.w) ≡ none) × NoneNear c.args.limit (listed c.args.set) (kept c.args.w) =
-    near_nothing _ _ _ _ c.requires.room.state _ c.requires.room.same _ c.requires.servable (sym c.nearest.ensures ∙ c.in_default.is) in
+added_by_c : (c : In_default-pick) → rule_a c.args.limit (drawn_rows c.args.set c.args.out.now) (kept c.args.w) ≡ none
+    → added c.args.limit (drawn_rows c.args.set c.args.out.now) (kept c.args.w) ≡ rule_c (drawn_rows c.args.set c.args.out.now) (prefixes (get_or c.args.w.values 0 0))
+added_by_c c n =
     let a = c.args in
     let some = c.if-w-eq0.false in
     let p : length a.w.values ≡ 16 = search rules in
-    added_c _ _ _ (kept_inside a.w 0 p c.requires.few (omega arith)) n.0
+    added_c _ _ _ (kept_inside a.w 0 p c.requires.few (omega arith)) n
     (subst (λ (r : Chosen). Picked a.limit (drawn_rows c.args.set c.args.out.now) (kept a.w) r) c.in_default-pick.is (c.pick.ensures (drawn_rows c.args.set c.args.out.now) (sym c.requires.room.same)))
     ∙ ap (λ (k : ℕ). rule_c (drawn_rows c.args.set c.args.out.now) (prefixes k)) (kept_at a.w 0 (omega arith))
 
@@ -95,11 +89,11 @@ pick-requires c =
 
 pub add_first-more-requires : goal.add_first-more-requires
 add_first-more-requires c =
-    (open_less _ 1 (omega (arith, two (goal.at.add_first-more-requires c).In-By)) c.requires.room, (picked_is (goal.at.add_first-more-requires c).In-By).odd)
+    (open_less _ 1 (omega (arith, two (goal.at.add_first-more-requires c).In-By (none_near (goal.at.add_first-more-requires c).In_default).0)) c.requires.room, (picked_is (goal.at.add_first-more-requires c).In-By).odd)
 
 pub add_first-requires-in-By : goal.add_first-requires-in-By
 add_first-requires-in-By c =
-    (open_on _ 1 (omega (arith, two (goal.at.add_first-requires-in-By c).In-By, (picked_is (goal.at.add_first-requires-in-By c).In-By).first)) c.requires.room c.add_first-more.ensures, (c.requires.servable _ (picked_is (goal.at.add_first-requires-in-By c).In-By).is_in).odd)
+    (open_on _ 1 (omega (arith, two (goal.at.add_first-requires-in-By c).In-By (none_near (goal.at.add_first-requires-in-By c).In_default).0, (picked_is (goal.at.add_first-requires-in-By c).In-By).first)) c.requires.room c.add_first-more.ensures, (c.requires.servable _ (picked_is (goal.at.add_first-requires-in-By c).In-By).is_in).odd)
 
 pub returns-in-By : goal.returns-in-By
 returns-in-By c =
@@ -107,9 +101,9 @@ returns-in-By c =
     let b = (goal.at.returns-in-By c).In-By in
     -- the rows drawn with that of s
     let s : drawn_rows c.add_first-more.result c.add_first-more.new.out ≡ drawn_rows a.set a.out.now ++ first_row b =
-    drawn_more _ (omega (arith, two b, (picked_is b).first)) c.requires.room c.add_first-more.ensures in
+    drawn_more _ (omega (arith, two b (none_near (goal.at.returns-in-By c).In_default).0, (picked_is b).first)) c.requires.room c.add_first-more.ensures in
     subst⁻¹ (λ (xs : List Row). Grown a.limit a.set xs c.add_first-in-By.result c.add_first-in-By.new.map a.out.now c.add_first-in-By.new.out)
-    (added_by_b (goal.at.returns-in-By c).In-By)
+    (added_by_b (goal.at.returns-in-By c).In-By (none_near (goal.at.returns-in-By c).In_default).0)
     (grown_then _ c.requires.room c.add_first-more.ensures
     (subst (λ (ys : List Row). Grown a.limit c.add_first-more.result (at_most_one (row_for a.limit ys c.in-By.c)) c.add_first-in-By.result c.add_first-in-By.new.map c.add_first-more.new.out c.add_first-in-By.new.out)
     s c.add_first-in-By.ensures))
@@ -119,7 +113,7 @@ add_prefixes-requires c =
     let a = c.args in
     let some = c.if-w-eq0.false in
     let p : length a.w.values ≡ 16 = search rules in (
-      subst (λ (xs : List Row). Open a.limit a.set a.map.now a.out.now (length xs)) (added_by_c (goal.at.add_prefixes-requires c).In_default-pick) c.requires.room,
+      subst (λ (xs : List Row). Open a.limit a.set a.map.now a.out.now (length xs)) (added_by_c (goal.at.add_prefixes-requires c).In_default-pick (none_near (goal.at.add_prefixes-requires c).In_default).0) c.requires.room,
       c.requires.servable _ (kept_in a.w 0 p c.requires.few (omega arith)),
     )
 
@@ -127,4 +121,4 @@ pub returns : goal.returns
 returns c =
     let a = c.args in
     subst⁻¹ (λ (xs : List Row). Grown a.limit a.set xs c.add_prefixes.result c.add_prefixes.new.map a.out.now c.add_prefixes.new.out)
-    (added_by_c (goal.at.returns c).In_default-pick) c.add_prefixes.ensures
+    (added_by_c (goal.at.returns c).In_default-pick (none_near (goal.at.returns c).In_default).0) c.add_prefixes.ensures

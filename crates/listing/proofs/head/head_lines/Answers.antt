@@ -100,14 +100,21 @@ overflow_cast-head-2 c =
 
 pub number_line-at-requires-2 : goal.number_line-at-requires-2
 number_line-at-requires-2 c =
-    rw (whole _ (input_fits (goal.at.number_line-at-requires-2 c).Start)) (room _ (wrote1 (goal.at.number_line-at-requires-2 c).After-number_line-at) (fits2 c.args.head c.args.adders c.args.csd _ c.requires.1))
+    let w1 = wrote1 (goal.at.number_line-at-requires-2 c).After-number_line-at in
+    rw (whole _ (input_fits (goal.at.number_line-at-requires-2 c).Start)) (room _ w1 (fits2 c.args.head c.args.adders c.args.csd _ c.requires.1))
 
 pub report-at-requires : goal.report-at-requires
-report-at-requires c = room _ (wrote2 (goal.at.report-at-requires c).After-number_line-at-2 (wrote1 (goal.at.report-at-requires c).After-number_line-at)) (fits3 c.args.head c.args.adders c.args.csd _ c.requires.1)
+report-at-requires c =
+    let w1 = wrote1 (goal.at.report-at-requires c).After-number_line-at in
+    let w2 = wrote2 (goal.at.report-at-requires c).After-number_line-at-2 w1 in
+    room _ w2 (fits3 c.args.head c.args.adders c.args.csd _ c.requires.1)
 
 pub number_line-at-requires-3 : goal.number_line-at-requires-3
 number_line-at-requires-3 c =
-    rw (adders_is (goal.at.number_line-at-requires-3 c).Start) (room _ (wrote3 (goal.at.number_line-at-requires-3 c).After-report-at (wrote2 (goal.at.number_line-at-requires-3 c).After-number_line-at-2 (wrote1 (goal.at.number_line-at-requires-3 c).After-number_line-at))) (fits4 c.args.head c.args.adders c.args.csd _ c.requires.1))
+    let w1 = wrote1 (goal.at.number_line-at-requires-3 c).After-number_line-at in
+    let w2 = wrote2 (goal.at.number_line-at-requires-3 c).After-number_line-at-2 w1 in
+    let w3 = wrote3 (goal.at.number_line-at-requires-3 c).After-report-at w2 in
+    rw (adders_is (goal.at.number_line-at-requires-3 c).Start) (room _ w3 (fits4 c.args.head c.args.adders c.args.csd _ c.requires.1))
 
 pub overflow_cast-csd : goal.overflow_cast-csd
 overflow_cast-csd c =
@@ -116,9 +123,17 @@ overflow_cast-csd c =
 
 pub number_line-requires : goal.number_line-requires
 number_line-requires c =
-    rw (csd_is (goal.at.number_line-requires c).Start) (room _ (wrote4 (goal.at.number_line-requires c).After-number_line-at-3 (wrote3 (goal.at.number_line-requires c).After-report-at (wrote2 (goal.at.number_line-requires c).After-number_line-at-2 (wrote1 (goal.at.number_line-requires c).After-number_line-at)))) (fits5 c.args.head c.args.adders c.args.csd _ c.requires.1))
+    let w1 = wrote1 (goal.at.number_line-requires c).After-number_line-at in
+    let w2 = wrote2 (goal.at.number_line-requires c).After-number_line-at-2 w1 in
+    let w3 = wrote3 (goal.at.number_line-requires c).After-report-at w2 in
+    let w4 = wrote4 (goal.at.number_line-requires c).After-number_line-at-3 w3 in
+    rw (csd_is (goal.at.number_line-requires c).Start) (room _ w4 (fits5 c.args.head c.args.adders c.args.csd _ c.requires.1))
 
 pub returns : goal.returns
 unfolding head_text
 returns c =
-    (wrote4 (goal.at.returns c).After-number_line-at-3 (wrote3 (goal.at.returns c).After-report-at (wrote2 (goal.at.returns c).After-number_line-at-2 (wrote1 (goal.at.returns c).After-number_line-at)))) ⨾ rw (csd_is (goal.at.returns c).Start) at c.number_line.ensures
+    let w1 = wrote1 (goal.at.returns c).After-number_line-at in
+    let w2 = wrote2 (goal.at.returns c).After-number_line-at-2 w1 in
+    let w3 = wrote3 (goal.at.returns c).After-report-at w2 in
+    let w4 = wrote4 (goal.at.returns c).After-number_line-at-3 w3 in
+    w4 ⨾ rw (csd_is (goal.at.returns c).Start) at c.number_line.ensures

@@ -41,18 +41,16 @@ width c =
 
 -- the numbers written
 numbers : (c : After-out_width) → let a = c.args in let p = c.take_apart-parts.result in
+    p ≡ apart a.t → c.output_index-index.result ≡ output_index a.values.now (odd_of a.t) → c.output_index-index.result ≤ most_rows →
     to_z w64 a.k ∷ to_z w64 c.output_index-index.result ∷ to_z w64 p.shift ∷ to_z w64 (of_z w64 (to_z w32 (of_z w32 p.sign))) ∷ to_z w64 (of_z w64 c.out_width.result) ∷ []
     ≡ out_numbers a.input a.values.now a.k a.t
 unfolding out_numbers apart
-numbers c =
+numbers c parts index few =
     let a = c.args in
     let p = c.take_apart-parts.result in
     let k = c.ranges.k.fits in
     let sign : SFits w32 p.sign = search rules in
     let shift : Fits w32 p.shift = search rules in
-    let parts : p ≡ apart a.t = rw (to_z-of_z w32 _ c.ranges.t) at c.take_apart-parts.ensures in
-    let index : c.output_index-index.result ≡ output_index a.values.now (odd_of a.t) = rw parts at c.output_index-index.ensures in
-    let few : c.output_index-index.result ≤ most_rows = rw index (omega (arith, index_most a.values.now (odd_of a.t), c.requires.0)) in
     let e1 : to_z w64 a.k ≡ pos a.k = to_z_pos w64 _ (omega arith) in
     let e2 : to_z w64 c.output_index-index.result ≡ pos (output_index a.values.now (odd_of a.t)) = to_z_pos w64 _ (omega (arith, few)) ∙ ap pos index in
     let e3 : to_z w64 p.shift ≡ pos (shift_of a.t) = to_z_pos w64 _ (omega arith) ∙ ap (λ (q : Parts). pos q.shift) parts in
@@ -65,11 +63,11 @@ overflow_cast-numbers-2 c = record { sfits = omega (arith, index_few (goal.at.ov
 
 pub put_line-requires : goal.put_line-requires
 put_line-requires c =
-    omega (arith, ap (λ (zs : List ℤ). length (line_of out_form zs)) (numbers (goal.at.put_line-requires c).After-out_width), c.requires.1)
+    omega (arith, ap (λ (zs : List ℤ). length (line_of out_form zs)) (numbers (goal.at.put_line-requires c).After-out_width (parts_are (goal.at.put_line-requires c).After-take_apart-parts) (index_is (goal.at.put_line-requires c).After-output_index-index) (index_few (goal.at.put_line-requires c).After-output_index-index)), c.requires.1)
 
 pub returns : goal.returns
 returns c =
-    same_text (ap (line_of out_form) (numbers (goal.at.returns c).After-out_width)) c.put_line.ensures
+    same_text (ap (line_of out_form) (numbers (goal.at.returns c).After-out_width (parts_are (goal.at.returns c).After-take_apart-parts) (index_is (goal.at.returns c).After-output_index-index) (index_few (goal.at.returns c).After-output_index-index))) c.put_line.ensures
 
 pub overflow_cast-numbers : goal.overflow_cast-numbers
 overflow_cast-numbers c = search rules
