@@ -1,5 +1,5 @@
 -- What the code finds of a target is what the definition says, and fits signed words. Assumes nothing.
-use mathlib.Core.Path.{◌≡◌, refl}
+use mathlib.Core.Path.{◌≡◌, refl, sym, ◌∙◌}
 use mathlib.Core.Bool.{true, false}
 use Prim.Native.Nat.{ℕ, zero, suc, ◌/◌, ◌^◌, ◌≤◌, ◌<◌}
 use native.Mathlib.Nat.{not-suc-le-zero, div-le_self}
@@ -9,7 +9,8 @@ use lib.Count.{count_trailing_zeros}
 use lib.IntN.{ℤ, pos, negsuc, nat_abs}
 use lib.Signed.{lt_z}
 use mir.Syntax.{w32}
-use mir.Val.{SFits}
+use mir.Val.{SFits, to_z, of_z}
+use mir.ValLaws.{to_z-of_z}
 use Rattle.meaning.specs.declared.Parts.{Parts}
 use Rattle.meaning.specs.Basics.{zeros_in, zeros}
 use Rattle.meaning.specs.Constants.{apart}
@@ -33,6 +34,10 @@ at_zero (negsuc n) e = absurd (no n e)
   where
     no : (n : ℕ) → suc n ≡ 0 → ⊥
     no n e = omega arith
+
+-- the same of a magnitude that was found, of t as its bits say it
+pub zero_apart : (t : ℤ) (m : ℕ) → SFits w32 t → m ≡ nat_abs (to_z w32 (of_z w32 t)) → m ≡ 0 → record { sign = pos 0; shift = 0; odd = 0 } ≡ apart t
+zero_apart t m h e z = at_zero t (sym (rw (to_z-of_z w32 t h) at e) ∙ z)
 
 pub at_below : (t : ℤ) → nat_abs t < 2 ^ 32 → lt_z t (pos 0) ≡ true → found (negsuc 0) (nat_abs t) ≡ apart t
 unfolding apart

@@ -1,12 +1,13 @@
 -- What a job that is not malformed asks for is what the code's answer says: the code's array holds all its targets, in front. Assumes nothing.
 use mathlib.Core.Path.{◌≡◌, refl, ap, ◌∙◌}
-use Prim.Native.Nat.{ℕ, ◌+◌, ◌≤◌}
+use Prim.Native.Nat.{ℕ, ◌+◌, ◌≤◌, ◌<◌}
 use mathlib.Core.List.{List}
 use native.Mathlib.Omega.{arith}
+use borrow.Author.Tests.{lt-leb}
 use lib.ListN.{length, take, drop}
 use lib.Seq.{sets, sets-eq, take-append_seam}
 use Rattle.meaning.specs.declared.Head.{Head}
-use Rattle.meaning.specs.Job.{Asked, Job, asks, malformed, job_of}
+use Rattle.meaning.specs.Job.{most_bytes, Asked, Job, asks, malformed, job_of}
 use Rattle.laws.proofs.Text.Asked.{most_targets_lem}
 use Rattle.job.specs.declared.Asks.TheVariants.{Wants, Malformed}
 use Rattle.job.specs.Held.{no_targets, parsed_of}
@@ -26,3 +27,8 @@ wants_job (malformed line) h n e = let x : ◌≡◌ {A = ℕ} 0 1 = cc in let y
 pub malformed_job : (x : Job) (line : ℕ) → (parsed_of x).asks ≡ Malformed line → x ≡ malformed line
 malformed_job (asks j) line e = let x : ◌≡◌ {A = ℕ} 0 1 = cc in let y : ⊥ = omega arith in absurd y
 malformed_job (malformed n) line e = cc
+
+-- a text that is too long
+pub long_job : (s : List ℕ) → most_bytes < length s → job_of s ≡ malformed 0
+unfolding job_of
+long_job s h = rw (lt-leb (length s) most_bytes h) refl

@@ -136,6 +136,7 @@ fn malformed(line: u32) -> Parsed
 }
 
 // What a job's text says.
+#[tactic(auto, using(crate::proofs::Laws::long_job))]
 pub fn parse(s: &[u8]) -> Parsed
     ensures { result ≡ parsed_of (job_of s.now) }
 {

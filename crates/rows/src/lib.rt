@@ -60,6 +60,7 @@ pub fn values(n: usize, words: &[u32], out: &mut [u32])
 }
 
 // n rows are not too many, and do not exceed the slice.
+#[tactic(auto, using(crate::proofs::Counts::too_many))]
 pub fn within(n: usize, words: &[u32]) -> bool
     ensures { result ≡ all (row_tests n words.now) }
 {
@@ -70,6 +71,7 @@ pub fn within(n: usize, words: &[u32]) -> bool
 }
 
 // The index that an output of some odd part uses, by the rows' values: the input has 1, and zero, which has none, uses it too.
+#[tactic(auto, using(crate::proofs::Outputs::of_input, crate::proofs::Outputs::of_row))]
 pub fn output_index(values: &[u32], odd: u32) -> usize
     ensures { result ≡ output_index values.now odd }
 {

@@ -23,6 +23,7 @@ impl Ready {
     }
 
     // One value more, at the end; a full set comes back unchanged.
+    #[tactic(auto, using(crate::proofs::ReadyLaws::added_full))]
     pub fn with(mut self, v: u32) -> Ready
         ensures { Added self v result }
     {

@@ -21,6 +21,7 @@ pub fn row_width(value: u32, input: u32) -> u32
 }
 
 // The width of a target's output.
+#[tactic(auto, using(crate::proofs::Outputs::zero_output))]
 pub fn output_width(t: i32, input: u32) -> u32
     requires { input ≤ 32 }
     ensures { result ≡ output_width input t }

@@ -1,6 +1,6 @@
 -- What was written: one text after the other, and the room that is left. Assumes nothing.
 use mathlib.Core.Path.{◌≡◌, refl, ap, ◌∙◌, sym}
-use mathlib.Core.Bool.{true, false}
+use mathlib.Core.Bool.{Bool, true, false, cond}
 use mathlib.Core.List.{List, [], ◌∷◌, ◌++◌}
 use Prim.Native.Nat.{ℕ, suc, ◌+◌, ◌≤◌, ◌<◌}
 use native.Mathlib.Numerals.{add-one}
@@ -9,7 +9,10 @@ use lib.IntN.{ℤ, pos, negsuc, nat_abs}
 use lib.ListN.{length, take, drop, set, get_or, length-append}
 use lib.Seq.{sets, sets-eq, length-sets, paste, paste-suc, take-length, take_all}
 use lib.Signed.{lt_z}
-use borrow.Author.Tests.{ltb-true}
+use borrow.Author.Tests.{ltb-true, eq-eqb, ne_eqb}
+use mir.Syntax.{w64}
+use mir.Val.{SFits, to_z, of_z}
+use mir.ValLaws.{to_z-of_z}
 use Rattle.meaning.specs.Forms.{piece, taken, line_of, lines_of}
 use Rattle.meaning.specs.Text.{unsigned_text, text_of}
 use Rattle.laws.proofs.Text.Forms.{line_more, line_end, lines_more, lines_part}
@@ -41,6 +44,17 @@ pub ◌⨾◌ : {a b c : ℕ} {d e f t u : List ℕ} → Wrote d a t e b → Wro
 pub same_text : {a b : ℕ} {d e t u : List ℕ} → t ≡ u → Wrote d a t e b → Wrote d a u e b
 same_text {a} {b} {d} {e} {t} {u} k p =
     record { stored = p.stored ∙ ap (sets d a) k; place = p.place ∙ ap (λ (x : List ℕ). a + length x) k; fits = rw k at p.fits }
+
+-- what stands for a form's byte: the number for #, or the byte itself
+pub piece_number : (b : ℕ) (z : ℤ) → b ≡ 35 → text_of z ≡ piece b z
+piece_number b z h = sym (ap (λ (t : Bool). cond t (text_of z) (b ∷ [])) (eq-eqb b 35 h))
+
+pub piece_byte : (b : ℕ) (z : ℤ) → (b ≡ 35 → ⊥) → b ∷ [] ≡ piece b z
+piece_byte b z h = sym (ap (λ (t : Bool). cond t (text_of z) (b ∷ [])) (ne_eqb b 35 h))
+
+-- the number that is written, which comes back through its bits, stands for #
+pub wrote_number : (b at n : ℕ) (z : ℤ) (d e : List ℕ) → SFits w64 z → b ≡ 35 → Wrote d at (text_of (to_z w64 (of_z w64 z))) e n → Wrote d at (piece b z) e n
+wrote_number b at n z d e h k w = same_text (piece_number b z k) (rw (to_z-of_z w64 z h) at w)
 
 -- any two allowed results are equal
 pub one_wrote : {a b b' : ℕ} {d e e' t : List ℕ} → Wrote d a t e b → Wrote d a t e' b' → (e ≡ e') × (b ≡ b')

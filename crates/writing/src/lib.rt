@@ -40,6 +40,7 @@ fn number(out: &mut [u8], at: usize, z: i64) -> usize
 }
 
 // What stands for a form's byte: the number for #, or the byte itself.
+#[tactic(auto, using(crate::proofs::Writing::wrote_number))]
 fn piece(out: &mut [u8], at: usize, c: u8, z: i64) -> usize
     requires { at + length (forms_piece c z) ≤ length out.old }
     ensures { Wrote out.old at (forms_piece c z) out.new result }

@@ -42,7 +42,7 @@ targets : (c : In-Wants) → take c.in-Wants.count c.parse-parsed.result.targets
 targets c = ap₂ take (sym (read c).count) (array c) ∙ kept_targets _ (read c).job (read c).is
 
 pub returns-then-out-lt-TEXT_ROOM : goal.returns-then-out-lt-TEXT_ROOM
-returns-then-out-lt-TEXT_ROOM c = print_short _ _ (omega (arith, c.if-out-lt-TEXT_ROOM.true))
+returns-then-out-lt-TEXT_ROOM c = print_short _ _ (omega arith)
 
 pub slice_bounds-ts-end : goal.slice_bounds-ts-end
 slice_bounds-ts-end c = omega (arith, few (goal.at.slice_bounds-ts-end c).In-Wants, places (goal.at.slice_bounds-ts-end c).In-Wants)
@@ -52,17 +52,17 @@ slice_bounds-draw-end c = sym (length-take-le _ _ (omega (arith, few (goal.at.sl
 
 pub draw-requires : goal.draw-requires
 draw-requires c =
-    (omega (arith, c.if-out-lt-TEXT_ROOM.false), subst Narrow (sym (targets (goal.at.draw-requires c).In-Wants)) (targets_fit _ (read (goal.at.draw-requires c).In-Wants).job (read (goal.at.draw-requires c).In-Wants).is))
+    (omega arith, subst Narrow (sym (targets (goal.at.draw-requires c).In-Wants)) (targets_fit _ (read (goal.at.draw-requires c).In-Wants).job (read (goal.at.draw-requires c).In-Wants).is))
 
 pub returns-in-Malformed : goal.returns-in-Malformed
 returns-in-Malformed c =
     let s = c.args.s.now in
-    print_text s _ _ _ _ (omega (arith, c.if-out-lt-TEXT_ROOM.false))
+    print_text s _ _ _ _ (omega arith)
     (malformed_text s _ (malformed_job (job_of s) _ (sym (ap (λ (x : Parsed). x.asks) c.parse-parsed.ensures) ∙ c.in-Malformed.is))) c.refused.ensures
 
 pub returns-in-Wants : goal.returns-in-Wants
 returns-in-Wants c =
     let s = c.args.s.now in
     let j = read (goal.at.returns-in-Wants c).In-Wants in
-    print_text s _ _ _ _ (omega (arith, c.if-out-lt-TEXT_ROOM.false))
+    print_text s _ _ _ _ (omega arith)
     (asked_text s j.job j.is ∙ (λ i. reply_to (record { head = j.head i; targets = sym (targets (goal.at.returns-in-Wants c).In-Wants) i }))) c.draw.ensures

@@ -1,10 +1,7 @@
 -- `within` meets its contract. Assumes nothing.
-use borrow.Author.Tests.{le-leb, lt-leb}
-use Rattle.laws.proofs.Lists.Tests.{and_true}
+use native.Mathlib.Omega.{arith}
+use Rattle.rows.proofs.Counts.{few_enough}
 use Rattle.rows.proofs.within.Goals as goal
 
-pub returns-then-n-gt-MOST_ROWS : goal.returns-then-n-gt-MOST_ROWS
-returns-then-n-gt-MOST_ROWS c = simp (lt-leb _ _ c.if-n-gt-MOST_ROWS.true)
-
 pub returns : goal.returns
-returns c = simp (le-leb _ _ c.if-n-gt-MOST_ROWS.false, and_true)
+returns c = few_enough c.args.n c.args.words.now (omega arith)

@@ -3,7 +3,7 @@ use mathlib.Core.Path.{◌≡◌, sym, ap, ◌∙◌}
 use mathlib.Core.Bool.{cond}
 use Prim.Native.Nat.{◌+◌, ◌≤◌}
 use native.Mathlib.Omega.{arith}
-use borrow.Author.Tests.{eq-eqb, ne_eqb}
+use borrow.Author.Tests.{ne_eqb}
 use lib.IntN.{nat_abs}
 use mir.Syntax.{w32}
 use mir.ValLaws.{to_z-of_z}
@@ -14,11 +14,6 @@ use Rattle.widths.proofs.bits.output_width.Goals.{After-magnitude-m}
 
 mag_is : (c : After-magnitude-m) → c.magnitude-m.result ≡ nat_abs c.args.t
 mag_is c = rw (to_z-of_z w32 _ c.ranges.t) at c.magnitude-m.ensures
-
-pub returns-then-m-eq0 : goal.returns-then-m-eq0
-returns-then-m-eq0 c =
-    let a = c.args in
-    sym (ap (λ b. cond b 1 (a.input + extra_bits (nat_abs a.t))) (eq-eqb _ 0 (sym (mag_is (goal.at.returns-then-m-eq0 c).After-magnitude-m) ∙ c.if-m-eq0.true)))
 
 pub overflow_add-result : goal.overflow_add-result
 overflow_add-result c =
@@ -31,4 +26,4 @@ returns c =
     let a = c.args in
     let e = mag_is (goal.at.returns c).After-magnitude-m in
     ap (λ k. a.input + k) (c.extra_bits.ensures ∙ ap extra_bits e)
-    ∙ sym (ap (λ b. cond b 1 (a.input + extra_bits (nat_abs a.t))) (ne_eqb _ 0 (λ z. c.if-m-eq0.false (e ∙ z))))
+    ∙ sym (ap (λ b. cond b 1 (a.input + extra_bits (nat_abs a.t))) (ne_eqb _ 0 (λ z. let h : c.magnitude-m.result ≡ 0 = e ∙ z in omega arith)))

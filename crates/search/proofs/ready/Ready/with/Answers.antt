@@ -4,15 +4,12 @@ use native.Mathlib.Omega.{arith}
 use borrow.Author.Rules.{rules}
 use lib.ListN.{length}
 use Rattle.meaning.specs.Limits.{most_ready}
-use Rattle.search.proofs.ReadyLaws.{added_full, added_room}
+use Rattle.search.proofs.ReadyLaws.{added_room}
 use Rattle.search.proofs.ready.Ready.with.Goals as goal
 use Rattle.search.proofs.ready.Ready.with.Goals.{Start}
 
 places : (c : Start) → length c.args.self.values ≡ most_ready
 places c = search rules
 
-pub returns-then-at-ge-MOST_READY : goal.returns-then-at-ge-MOST_READY
-returns-then-at-ge-MOST_READY c = added_full _ _ c.if-at-ge-MOST_READY.true
-
 pub returns : goal.returns
-returns c = added_room _ _ (places (goal.at.returns c).Start) (omega (arith, c.if-at-ge-MOST_READY.false))
+returns c = added_room _ _ (places (goal.at.returns c).Start) (omega arith)

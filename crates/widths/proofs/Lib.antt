@@ -1,0 +1,2 @@
+-- The laws by which the check finds that a function over bits meets its contract.
+pub mod Outputs
