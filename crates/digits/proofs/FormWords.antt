@@ -15,7 +15,7 @@ use Rattle.meaning.specs.declared.Formed.TheVariants.{Digits, Refused}
 use Rattle.meaning.specs.declared.Refusal.TheVariants as no
 use Rattle.meaning.specs.Basics.{over}
 use Rattle.meaning.specs.Digits.{Digit, nonzeros, lowest, above, canonic, opposite, form_of, is_minus, plus_places, minus_places, form_words}
-use Rattle.meaning.specs.Refusals.{Done, given, formed_as, canonic_told, canonic_written}
+use Rattle.meaning.specs.Refusals.{Done, given, told, canonic_told, canonic_written}
 use Rattle.laws.proofs.Digits.Canonic.{Split, split_none, split_plus, split_minus, split_of}
 use Rattle.laws.proofs.Digits.Places.{minus_bit, opposite_plus, opposite_minus, opposite_nonzeros, places_none, places_step, plus_is, minus_half, form_above, form_below}
 use Rattle.laws.proofs.Refusals.Stages.{over_none, short_room, enough_room}
@@ -124,7 +124,7 @@ pub form_refused : (t : ℤ) (old : List ℕ) → length old < 2 → Done (canon
 unfolding canonic_told canonic_written
 form_refused t old h =
     let e = short_room 2 (length old) h in
-    record { answers = ap (λ a. formed_as a (nonzeros (form_of t))) (sym e); writes = sym (over_none old) ∙ ap (λ a. over (given a (form_words (form_of t))) old) (sym e) }
+    record { answers = ap (λ a. told a (nonzeros (form_of t))) (sym e); writes = sym (over_none old) ∙ ap (λ a. over (given a (form_words (form_of t))) old) (sym e) }
 
 pub form_done : (t : ℤ) (k : ℕ) (old new : List ℕ) → 2 ≤ length old → k ≡ nonzeros (form_of t) → new ≡ over (form_words (form_of t)) old
     → Done (canonic_told t (length old)) (canonic_written t (length old)) (Digits k) old new
@@ -132,6 +132,6 @@ unfolding canonic_told canonic_written
 form_done t k old new h f g =
     let e = enough_room 2 (length old) h in
     record {
-      answers = ap Digits f ∙ ap (λ a. formed_as a (nonzeros (form_of t))) (sym e);
+      answers = ap Digits f ∙ ap (λ a. told a (nonzeros (form_of t))) (sym e);
       writes = g ∙ ap (λ a. over (given a (form_words (form_of t))) old) (sym e);
     }

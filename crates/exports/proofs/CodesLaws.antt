@@ -2,6 +2,7 @@
 -- call: targets (16), rows (128), a ready list's values (129); a job is refused in its text, and its code has no place. A contract
 -- allows one code and one content of the lent slice. Assumes nothing.
 use mathlib.Core.Path.{◌≡◌, refl, sym, ap, ap₂, ◌∙◌, subst}
+use Rattle.std.specs.Prelude.{Ok, Err}
 use mathlib.Core.Bool.{Bool, false, cond, ◌&&◌}
 use mathlib.Core.List.{List, [], ◌∷◌, ◌++◌}
 use Prim.Native.Nat.{ℕ, zero, suc, ◌+◌, ◌*◌, ◌/◌, ◌%◌, ◌^◌, ◌<◌, ◌≤◌}
@@ -10,15 +11,13 @@ use lib.Dec.{T, eqb, leb, ltb, leb→le}
 use lib.IntN.{ℤ, pos, neg_ℤ, nat_abs}
 use lib.ListN.{length, length-append}
 use Rattle.laws.proofs.Whole.Integers.{abs_neg}
-use Rattle.meaning.specs.declared.Answer.{Answer}
-use Rattle.meaning.specs.declared.Answer.TheVariants.{Accepted, Refused}
 use Rattle.meaning.specs.declared.Refusal.{Refusal}
 use Rattle.meaning.specs.declared.Refusal.TheVariants as no
 use Rattle.meaning.specs.Graph.{row_length, row_tests, rows, values, does_fit, is_served}
 use Rattle.meaning.specs.Limits.{between, bit_tests, limit, most_targets, most_rows, most_ready, width_tests}
 use Rattle.meaning.specs.Constants.{odd_of}
 use Rattle.meaning.specs.Generator.{generated}
-use Rattle.meaning.specs.Refusals.{number, place_of, Done, need, need_each, first_of, bit_limit, list_length, row_count, valid_rows, all_served, input_width, buffer, few_rows, admit_order, check_order, products_order, widths_order, ranking_order, generate_order, distance_order, checked, multiplied, measured, ranked, drawn, apart_told}
+use Rattle.meaning.specs.Refusals.{Answer, Accepted, number, place_of, Done, need, need_each, first_of, bit_limit, list_length, row_count, valid_rows, all_served, input_width, buffer, few_rows, admit_order, check_order, products_order, widths_order, ranking_order, generate_order, distance_order, checked, multiplied, measured, ranked, drawn, apart_told}
 use Rattle.laws.proofs.Graph.Rows.{length_rows}
 use Rattle.laws.proofs.Refusals.Stages.{never_both, need_accepts, need_refuses}
 use Rattle.laws.proofs.Refusals.Members.{each_refuses}
@@ -103,7 +102,7 @@ one_refusal x y h k e =
 -- ---- the places of each call
 
 abbrev pub Low : Answer → Type 0
-Low a = (why : Refusal) → a ≡ Refused why → place_of why ≤ 129
+Low a = (why : Refusal) → a ≡ Err why → place_of why ≤ 129
 
 low_need : (why : Refusal) (tests : List Bool) → place_of why ≤ 129 → Low (need why tests)
 low_need why tests h y e = subst (λ r. place_of r ≤ 129) (need_refuses why y tests e).1 h
@@ -126,8 +125,8 @@ LowAll (a ∷ rest) = Low a × (a ≡ Accepted → LowAll rest)
 
 low_first : (stages : List Answer) → LowAll stages → Low (first_of stages)
 low_first [] l why e = never_both why e
-low_first (Accepted ∷ rest) l why e = low_first rest (l.1 refl) why e
-low_first (Refused y ∷ rest) l why e = l.0 why e
+low_first (Ok _ ∷ rest) l why e = low_first rest (l.1 refl) why e
+low_first (Err y ∷ rest) l why e = l.0 why e
 
 low_bits : (b : ℕ) → Low (bit_limit b)
 low_bits b = low_need no.Bits (bit_tests b) (omega arith)

@@ -1,5 +1,6 @@
 -- What the calls for other languages share: an answer handed back as its code, and numbers that fit. Assumes nothing.
 use mathlib.Core.Path.{◌≡◌, sym, ap, ◌∙◌, subst}
+use Rattle.std.specs.Prelude.{Result, Ok, Err}
 use mathlib.Core.Bool.{Bool, true, false, cond}
 use mathlib.Core.List.{List, [], ◌∷◌}
 use Prim.Native.Nat.{ℕ, ◌*◌, ◌≤◌}
@@ -11,22 +12,18 @@ use mir.Syntax.{w64}
 use mir.Val.{SFits, to_z, of_z}
 use mir.ValLaws.{to_z-of_z}
 use Rattle.meaning.specs.Limits.{most_rows}
-use Rattle.meaning.specs.declared.Answer.{Answer}
-use Rattle.meaning.specs.declared.Answer.TheVariants.{Accepted, Refused}
-use Rattle.meaning.specs.declared.Printed.{Printed}
-use Rattle.meaning.specs.declared.Printed.TheVariants as out
 use Rattle.meaning.specs.declared.Refusal.{Refusal}
 use Rattle.meaning.specs.declared.Refusal.TheVariants as no
 use Rattle.meaning.specs.Basics.{over}
 use Rattle.meaning.specs.Graph.{row_length}
-use Rattle.meaning.specs.Refusals.{ranking_order, widths_order, ranked, measured}
+use Rattle.meaning.specs.Refusals.{Answer, Accepted, ranking_order, widths_order, ranked, measured}
 use Rattle.meaning.specs.Listing.{text_room, job_text, printed_told, text_written}
 use Rattle.meaning.specs.Calls.{Prints}
 use Rattle.laws.proofs.Refusals.Stages.{first_accepts, need_accepts}
 use Rattle.exports.specs.Codes.{coded, Coded}
 
 -- the code of a refusal, or of acceptance, is that of the answer which was one
-pub refused_coded : (a : Answer) (why : Refusal) (m n : ℕ) → a ≡ Refused why → coded (Refused why) m ≡ coded a n
+pub refused_coded : (a : Answer) (why : Refusal) (m n : ℕ) → a ≡ Err why → coded (Err why) m ≡ coded a n
 unfolding coded
 refused_coded a why m n e = sym (ap (λ x. coded x n) e)
 
@@ -65,12 +62,12 @@ module _ (b : ℕ) (ts : List ℤ) (n : ℕ) (w : List ℕ) (input room : ℕ) w
       leb→le n most_rows (need_accepts no.RowCount (room_tests n w) s5).0
 
 -- a text that was written is within its buffer
-pub bytes_within : (s before after : List ℕ) (p : Printed) (n : ℕ) → Prints s p before after
-    → p ≡ out.Bytes n → length after ≡ length before → n ≤ length before
+pub bytes_within : (s before after : List ℕ) (p : Result ℕ Refusal) (n : ℕ) → Prints s p before after
+    → p ≡ Ok n → length after ≡ length before → n ≤ length before
 unfolding printed_told text_written over
 bytes_within s before after p n d e same = go (leb text_room (length before)) (sym e ∙ d.answers) d.writes
   where
-    go : (t : Bool) → out.Bytes n ≡ cond t (out.Bytes (length (job_text s))) (out.Refused no.Buffer) → after ≡ over (cond t (job_text s) []) before → n ≤ length before
+    go : (t : Bool) → Ok n ≡ cond t (Ok (length (job_text s))) (Err no.Buffer) → after ≡ over (cond t (job_text s) []) before → n ≤ length before
     go true f g =
         let q : n ≡ length (job_text s) = cc in
         let l = ap length g ∙ length-append (job_text s) (drop (length (job_text s)) before) in

@@ -1,12 +1,11 @@
 -- The job: the grammar of its text, what it asks for, and the order in which it is refused. Assumes nothing.
 use Rattle.std.specs.Prelude.{Bool, true, false, cond, List, [], ◌∷◌, ◌++◌, ℕ, zero, suc, ◌+◌, eqb, leb, ℤ, pos, negsuc, length, get_or}
-use Rattle.meaning.specs.declared.Answer.{Answer}
 use Rattle.meaning.specs.declared.Head.{Head}
 use Rattle.meaning.specs.declared.Row.{Row}
 use Rattle.meaning.specs.Text.{bytes, stands, number_at}
 use Rattle.meaning.specs.Forms.{Line, good, bad, on_read, front, line_at, bits_form, input_form, report_text}
 use Rattle.meaning.specs.Generator.{generated}
-use Rattle.meaning.specs.Refusals.{admit_order, few_rows, input_width}
+use Rattle.meaning.specs.Refusals.{Answer, admit_order, few_rows, input_width}
 
 -- what a job asks for
 pub record Asked : Type 0 where

@@ -1,7 +1,6 @@
 -- The operation, of u and v with left shifts l1 and l2, a sign s and a right shift r, under the limit L. Assumes nothing.
-use Rattle.std.specs.Prelude.{◌≡◌, Bool, cond, List, [], ◌∷◌, ℕ, zero, suc, ◌+◌, ◌*◌, ◌/◌, ◌%◌, ◌^◌, ◌≤◌, ◌<◌, min, leb, ltb, eqb, ℤ, pos, ◌+ℤ◌, ◌-ℤ◌}
-use Rattle.meaning.specs.declared.Operated.{Operated}
-use Rattle.meaning.specs.declared.Operated.TheVariants.{Made, Invalid}
+use Rattle.std.specs.Prelude.{◌≡◌, Bool, cond, List, [], ◌∷◌, ℕ, zero, suc, ◌+◌, ◌*◌, ◌/◌, ◌%◌, ◌^◌, ◌≤◌, ◌<◌, min, leb, ltb, eqb, ℤ, pos, ◌+ℤ◌, ◌-ℤ◌, Option, Some, None}
+use Rattle.meaning.specs.declared.Made.{Made}
 use Rattle.meaning.specs.Basics.{difference, all, zeros}
 use Rattle.meaning.specs.Limits.{bit_tests, limit}
 
@@ -56,13 +55,13 @@ unfoldable pub is_valid : (L u v l1 l2 s r c : ℕ) → Bool
 is_valid L u v l1 l2 s r c = all (valid_tests L u v l1 l2 s r c)
 
 -- what an operation makes, if some r and value make it valid: n, r and the value
-unfoldable pub operated : (L u v l1 l2 s : ℕ) → Operated
+unfoldable pub operated : (L u v l1 l2 s : ℕ) → Option Made
 operated L u v l1 l2 s =
     let m : ℕ = size u v l1 l2 s in
     let r : ℕ = zeros m in
     let c : ℕ = m / 2 ^ r in
-    cond (is_valid L u v l1 l2 s r c) (Made (whole u v l1 l2 s) r c) Invalid
+    cond (is_valid L u v l1 l2 s r c) (Some (record { n = whole u v l1 l2 s; r = r; value = c })) None
 
 -- the same under the bit limit b, which is 2 to 16
-unfoldable pub operated_under : (b u v l1 l2 s : ℕ) → Operated
-operated_under b u v l1 l2 s = cond (all (bit_tests b)) (operated (limit b) u v l1 l2 s) Invalid
+unfoldable pub operated_under : (b u v l1 l2 s : ℕ) → Option Made
+operated_under b u v l1 l2 s = cond (all (bit_tests b)) (operated (limit b) u v l1 l2 s) None

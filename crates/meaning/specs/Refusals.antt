@@ -1,13 +1,6 @@
 -- Numbers handed back on refusal: the table, the order in which each call looks, and what it writes. Assumes nothing.
-use Rattle.std.specs.Prelude.{◌≡◌, Bool, ◌&&◌, cond, List, [], ◌∷◌, ◌++◌, ℕ, ◌+◌, ◌*◌, ◌%◌, ◌^◌, leb, ltb, eqb, ℤ, length}
-use Rattle.meaning.specs.declared.Answer.{Answer}
-use Rattle.meaning.specs.declared.Answer.TheVariants.{Accepted, Refused}
+use Rattle.std.specs.Prelude.{◌≡◌, Bool, ◌&&◌, cond, List, [], ◌∷◌, ◌++◌, ℕ, ◌+◌, ◌*◌, ◌%◌, ◌^◌, leb, ltb, eqb, ℤ, length, ⊤, Result, Ok, Err}
 use Rattle.meaning.specs.declared.Far.{Far}
-use Rattle.meaning.specs.declared.Far.TheVariants as far
-use Rattle.meaning.specs.declared.Drawn.{Drawn}
-use Rattle.meaning.specs.declared.Drawn.TheVariants as out
-use Rattle.meaning.specs.declared.Formed.{Formed}
-use Rattle.meaning.specs.declared.Formed.TheVariants as formed
 use Rattle.meaning.specs.declared.Row.{Row}
 use Rattle.meaning.specs.declared.Refusal.{Refusal}
 use Rattle.meaning.specs.declared.Refusal.TheVariants as no
@@ -54,14 +47,21 @@ place_of (no.Job p) = p
 
 -- ---- the situations
 
+-- what a call or one of its stages answers: accepted, or a refusal
+abbrev pub Answer : Type 0
+Answer = Result ⊤ Refusal
+
+abbrev pub Accepted : Answer
+Accepted = Ok tt
+
 -- refused unless every test passes
 abbrev pub need : Refusal → List Bool → Answer
-need why tests = cond (all tests) Accepted (Refused why)
+need why tests = cond (all tests) Accepted (Err why)
 
 -- refused at the first member that fails a test, which may look at the members before it; its place counts from 1
 unfoldable pub need_each : {A : Type 0} → (ℕ → Refusal) → (List A → A → Bool) → List A → List A → Answer
 need_each why test before [] = Accepted
-need_each why test before (x ∷ xs) = cond (test before x) (need_each why test (before ++ (x ∷ [])) xs) (Refused (why (length before + 1)))
+need_each why test before (x ∷ xs) = cond (test before x) (need_each why test (before ++ (x ∷ [])) xs) (Err (why (length before + 1)))
 
 -- 1: b not in 2..16
 abbrev pub bit_limit : ℕ → Answer
@@ -114,8 +114,8 @@ target b c = need no.Target (eqb (c % 2) 1 ∷ ltb c (2 ^ b) ∷ [])
 
 abbrev pub first_of : List Answer → Answer
 first_of [] = Accepted
-first_of (Accepted ∷ rest) = first_of rest
-first_of (Refused why ∷ rest) = Refused why
+first_of (Ok _ ∷ rest) = first_of rest
+first_of (Err why ∷ rest) = Err why
 
 abbrev pub admit_order : ℕ → List ℤ → List Answer
 admit_order b ts = bit_limit b ∷ list_length ts ∷ odd_parts b ts ∷ []
@@ -149,9 +149,15 @@ pub record Done {R A : Type 0} (answer : R) (written : List A) (r : R) (before a
   pub answers : r ≡ answer
   pub writes : after ≡ over written before
 
+-- what a call tells that is not refused
+abbrev pub told : {A : Type 0} → Answer → A → Result A Refusal
+told (Ok _) a = Ok a
+told (Err why) a = Err why
+
+-- what it writes
 abbrev pub given {ℓ} : {A : Type ℓ} → Answer → List A → List A
-given Accepted xs = xs
-given (Refused why) xs = []
+given (Ok _) xs = xs
+given (Err why) xs = []
 
 unfoldable pub admitted : ℕ → List ℤ → Answer
 admitted b ts = first_of (admit_order b ts)
@@ -183,25 +189,17 @@ ranking_written b ts n w input room = given (ranked b ts n w input room) (rankin
 unfoldable pub drawn : ℕ → List ℤ → ℕ → Answer
 drawn b ts room = first_of (generate_order b ts room)
 
-abbrev pub drawn_as : Answer → ℕ → Drawn
-drawn_as Accepted n = out.Rows n
-drawn_as (Refused why) n = out.Refused why
-
 -- how many rows were drawn
-unfoldable pub drawn_told : ℕ → List ℤ → ℕ → Drawn
-drawn_told b ts room = drawn_as (drawn b ts room) (length (generated b ts))
+unfoldable pub drawn_told : ℕ → List ℤ → ℕ → Result ℕ Refusal
+drawn_told b ts room = told (drawn b ts room) (length (generated b ts))
 
 unfoldable pub rows_written : ℕ → List ℤ → ℕ → List ℕ
 rows_written b ts room = given (drawn b ts room) (flat (generated b ts))
 
-abbrev pub far_as : Answer → Far → Far
-far_as Accepted d = d
-far_as (Refused why) d = far.Refused why
+unfoldable pub distance_told : ℕ → List ℕ → ℕ → Result Far Refusal
+distance_told b vals c = told (first_of (distance_order b vals c)) (distance (limit b) vals c)
 
-unfoldable pub distance_told : ℕ → List ℕ → ℕ → Far
-distance_told b vals c = far_as (first_of (distance_order b vals c)) (distance (limit b) vals c)
-
--- ---- a constant alone: its parts in three words, and its canonic form in two. Refused by 4 only
+-- ---- a constant alone: its parts in three words, and its canonic form in two. Err by 4 only
 
 unfoldable pub apart_told : ℕ → Answer
 apart_told room = buffer 3 room
@@ -209,13 +207,9 @@ apart_told room = buffer 3 room
 unfoldable pub apart_written : ℤ → ℕ → List ℤ
 apart_written t room = given (apart_told room) (part_words (apart t))
 
-abbrev pub formed_as : Answer → ℕ → Formed
-formed_as Accepted n = formed.Digits n
-formed_as (Refused why) n = formed.Refused why
-
 -- how many digits are nonzero
-unfoldable pub canonic_told : ℤ → ℕ → Formed
-canonic_told t room = formed_as (buffer 2 room) (nonzeros (form_of t))
+unfoldable pub canonic_told : ℤ → ℕ → Result ℕ Refusal
+canonic_told t room = told (buffer 2 room) (nonzeros (form_of t))
 
 unfoldable pub canonic_written : ℤ → ℕ → List ℕ
 canonic_written t room = given (buffer 2 room) (form_words (form_of t))

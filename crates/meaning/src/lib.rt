@@ -14,9 +14,10 @@ pub struct Parts {
 
 // What an operation makes: n, r and its value.
 #[derive(Clone, Copy)]
-pub enum Operated {
-    Made { n: i64, r: u32, value: u32 },
-    Invalid,
+pub struct Made {
+    pub n: i64,
+    pub r: u32,
+    pub value: u32,
 }
 
 // The ranges of the bit limit and of the input width (specs/Limits.antt).
@@ -131,13 +132,6 @@ impl Refusal {
     }
 }
 
-// What a call that lends its results answers.
-#[derive(Clone, Copy)]
-pub enum Answer {
-    Accepted,
-    Refused(Refusal),
-}
-
 // How far a constant is from a list.
 #[derive(Clone, Copy)]
 pub enum Far {
@@ -145,14 +139,6 @@ pub enum Far {
     One,
     Two,
     Beyond,
-    Refused(Refusal),
-}
-
-// How many rows the generator has written.
-#[derive(Clone, Copy)]
-pub enum Drawn {
-    Rows(u32),
-    Refused(Refusal),
 }
 
 // What a job and a listing say first: the bit limit, the input width, and whether the row lines are ordered by width.
@@ -191,18 +177,4 @@ pub const TEXT_ROOM: usize = HEAD_ROOM + MOST_ROWS * ROW_LINE_ROOM + MOST_TARGET
 pub enum Read {
     Number(i32, usize),
     Bad,
-}
-
-// How many bytes were written for a job's text.
-#[derive(Clone, Copy)]
-pub enum Printed {
-    Bytes(usize),
-    Refused(Refusal),
-}
-
-// How many digits of the canonic form that was written are nonzero.
-#[derive(Clone, Copy)]
-pub enum Formed {
-    Digits(u32),
-    Refused(Refusal),
 }

@@ -14,9 +14,8 @@ use Rattle.meaning.specs.declared.Row.{Row}
 use Rattle.meaning.specs.Basics.{every}
 use Rattle.laws.proofs.Lists.Tests.{both_of, in_every}
 use Rattle.laws.proofs.Refusals.Checked.{good_of}
-use Rattle.meaning.specs.declared.Answer.TheVariants.{Accepted}
 use Rattle.meaning.specs.Limits.{limit}
-use Rattle.meaning.specs.Refusals.{checked}
+use Rattle.meaning.specs.Refusals.{Accepted, checked}
 use Rattle.meaning.specs.Graph.{row_after, rows, values, ready, is_served}
 use Rattle.meaning.specs.Products.{row_product, products_from, products}
 use Rattle.laws.proofs.Products.{products_more}

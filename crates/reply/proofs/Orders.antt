@@ -1,5 +1,6 @@
 -- A job that is not malformed: a graph that was drawn for it and its listing, and the replies. Assumes nothing.
 use mathlib.Core.Path.{◌≡◌, refl, ap, ◌∙◌}
+use Rattle.std.specs.Prelude.{Err}
 use mathlib.Core.Bool.{Bool, true, false}
 use mathlib.Core.List.{List, []}
 use Prim.Native.Nat.{ℕ, ◌≤◌, ◌<◌}
@@ -10,7 +11,6 @@ use lib.Signed.{lt_z}
 use borrow.Author.Tests.{ltb-true}
 use mir.Syntax.{w32}
 use mir.Val.{SFits}
-use Rattle.meaning.specs.declared.Answer.TheVariants.{Accepted, Refused}
 use Rattle.meaning.specs.declared.Head.{Head}
 use Rattle.meaning.specs.declared.Refusal.{Refusal}
 use Rattle.meaning.specs.declared.Refusal.TheVariants as no
@@ -19,7 +19,7 @@ use Rattle.meaning.specs.Basics.{all}
 use Rattle.meaning.specs.Job.{Asked, natural, bits_of, input_of}
 use Rattle.meaning.specs.Listing.{graph_in, listing_of, refused_line, reply_to, listing, text_room}
 use Rattle.meaning.specs.Limits.{width_tests}
-use Rattle.meaning.specs.Refusals.{admitted}
+use Rattle.meaning.specs.Refusals.{Accepted, admitted}
 use Rattle.laws.proofs.Refusals.Checked.{good_of}
 use Rattle.laws.proofs.Text.Jobs.{reply_by, job_stops, job_passes}
 use Rattle.laws.proofs.Text.Room.{graph_room}
@@ -60,10 +60,10 @@ all_tests w = all (width_tests w)
 
 module _ (j : Asked) (e : admitted (bits_of j.head) j.targets ≡ Accepted) where
   pub reply_width : (all_tests (input_of j.head) ≡ false) → reply_to j ≡ refused_line no.Width
-  reply_width h = reply_by j (Refused no.Width) (job_passes j e ∙ stops no.Width (width_tests (input_of j.head)) [] h)
+  reply_width h = reply_by j (Err no.Width) (job_passes j e ∙ stops no.Width (width_tests (input_of j.head)) [] h)
 
   pub reply_listing : all_tests (input_of j.head) ≡ true → reply_to j ≡ listing j
   reply_listing h = reply_by j Accepted (job_passes j e ∙ passes no.Width (width_tests (input_of j.head)) [] h)
 
-pub reply_refused : (j : Asked) (why : Refusal) → admitted (bits_of j.head) j.targets ≡ Refused why → reply_to j ≡ refused_line why
-reply_refused j why e = reply_by j (Refused why) (job_stops j why e)
+pub reply_refused : (j : Asked) (why : Refusal) → admitted (bits_of j.head) j.targets ≡ Err why → reply_to j ≡ refused_line why
+reply_refused j why e = reply_by j (Err why) (job_stops j why e)

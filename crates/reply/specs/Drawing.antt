@@ -2,10 +2,9 @@
 use Rattle.std.specs.Prelude.{◌≡◌, List, ℕ, ℤ, pos, get_or}
 use Rattle.std.specs.Int.{w32}
 use Rattle.std.proofs.Common.{SFits}
-use Rattle.meaning.specs.declared.Answer.TheVariants.{Accepted}
 use Rattle.meaning.specs.Graph.{rows}
 use Rattle.meaning.specs.Generator.{generated}
-use Rattle.meaning.specs.Refusals.{admitted, checked}
+use Rattle.meaning.specs.Refusals.{Accepted, admitted, checked}
 
 -- every target is a signed 32-bit number
 abbrev pub Narrow : List ℤ → Type 0

@@ -9,8 +9,6 @@ use lib.Dec.{T, eqb, leb, leb→le, le→leb}
 use lib.IntN.{ℤ, pos, negsuc, nat_abs, ◌*ℤ◌, *ℤ_comm}
 use lib.ListN.{length, get_or, drop, length-append, length-map, length-drop, get_or-append}
 use lib.Seq.{drop-append_seam, get_or-append-add}
-use Rattle.meaning.specs.declared.Answer.{Answer}
-use Rattle.meaning.specs.declared.Answer.TheVariants.{Accepted}
 use Rattle.meaning.specs.declared.Refusal.TheVariants as no
 use Rattle.meaning.specs.declared.Row.{Row}
 use Rattle.meaning.specs.declared.Operated.{Operated}
@@ -22,7 +20,7 @@ use Rattle.meaning.specs.Constants.{sign_of, odd_of}
 use Rattle.meaning.specs.Graph.{row_after, rows, values, is_served}
 use Rattle.meaning.specs.Products.{products, target_products}
 use Rattle.meaning.specs.Widths.{extra_bits, Fewest, row_width, output_width, widths, ranking, InOrder}
-use Rattle.meaning.specs.Refusals.{check_order, sized_order, products_order, widths_order, checked, sized, multiplied, products_written, measured, widths_written, ranking_written, given}
+use Rattle.meaning.specs.Refusals.{Answer, Accepted, check_order, sized_order, products_order, widths_order, checked, sized, multiplied, products_written, measured, widths_written, ranking_written, given}
 use Rattle.meaning.specs.Calls.{Admits, Checks, Operates, Multiplies, Measures, Ranks}
 use Rattle.laws.proofs.Lists.Tests.{up_in, all_of, of_all, T_of, true_of, either_of, of_left, of_right, in_every}
 use Rattle.laws.proofs.Lists.First.{up_more}

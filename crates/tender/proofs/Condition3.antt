@@ -1,15 +1,12 @@
 -- Condition 3 holds. Assumes nothing.
 use mathlib.Core.Path.{◌≡◌, refl, sym, ap, ap₂, ◌∙◌, subst⁻¹}
+use Rattle.std.specs.Prelude.{Result, Ok, Err}
 use mathlib.Core.List.{List, [], ◌∷◌}
 use mathlib.Core.Logic.{◌↔◌}
 use Prim.Native.Nat.{ℕ, ◌+◌, ◌-◌, ◌*◌, ◌≤◌}
 use native.Mathlib.Omega.{arith}
 use lib.IntN.{ℤ, nat_abs}
 use lib.ListN.{length, drop}
-use Rattle.meaning.specs.declared.Answer.{Answer}
-use Rattle.meaning.specs.declared.Answer.TheVariants.{Accepted, Refused}
-use Rattle.meaning.specs.declared.Drawn.{Drawn}
-use Rattle.meaning.specs.declared.Drawn.TheVariants.{Rows}
 use Rattle.meaning.specs.declared.Far.{Far}
 use Rattle.meaning.specs.Basics.{over, sum_of}
 use Rattle.meaning.specs.Limits.{limit}
@@ -18,7 +15,7 @@ use Rattle.meaning.specs.Digits.{Digit, minus, none, plus, worth, is_nonzero, no
 use Rattle.meaning.specs.Distance.{distance}
 use Rattle.meaning.specs.Graph.{flat}
 use Rattle.meaning.specs.Generator.{generated}
-use Rattle.meaning.specs.Refusals.{drawn_as, drawn_told, first_of, distance_order}
+use Rattle.meaning.specs.Refusals.{Answer, Accepted, told, drawn_told, first_of, distance_order}
 use Rattle.meaning.specs.Calls.{Admits, Distances, Generates}
 use Rattle.laws.proofs.Digits.Canonic.{canonic_is, canonic_only}
 use Rattle.laws.proofs.Constants.Wanted.{wanted_ascending}
@@ -58,13 +55,13 @@ ascends (c ∷ cs) a = (a.0, ascends cs a.1)
 
 -- ---- the call
 
-answered : (b : ℕ) (ts : List ℤ) (r : Drawn) (before after : List ℕ) → Generates b ts r before after → Admits b ts Accepted → 896 ≤ length before
-    → (n : ℕ) × (r ≡ Rows n)
+answered : (b : ℕ) (ts : List ℤ) (r : Result ℕ Refusal) (before after : List ℕ) → Generates b ts r before after → Admits b ts Accepted → 896 ≤ length before
+    → (n : ℕ) × (r ≡ Ok n)
 unfolding drawn_told
 answered b ts r before after d a h =
-    (length (generated b ts), d.answers ∙ ap (λ x. drawn_as x (length (generated b ts))) (drawn_accepts b ts (length before) (sym a) h))
+    (length (generated b ts), d.answers ∙ ap (λ x. told x (length (generated b ts))) (drawn_accepts b ts (length before) (sym a) h))
 
-kept : (b : ℕ) (ts : List ℤ) (n : ℕ) (before after : List ℕ) → Generates b ts (Rows n) before after
+kept : (b : ℕ) (ts : List ℤ) (n : ℕ) (before after : List ℕ) → Generates b ts (Ok n) before after
     → (length after ≡ length before) × (drop (7 * n) after ≡ drop (7 * n) before)
 unfolding over
 kept b ts n before after d =
@@ -79,8 +76,8 @@ module _ (b : ℕ) (vals : List ℕ) (c : ℕ) where
   answer r d n = go (first_of (distance_order b vals c)) refl
     where
       go : (a : Answer) → first_of (distance_order b vals c) ≡ a → r ≡ distance (limit b) vals c
-      go Accepted e = d ∙ distance_told_lem b vals c e
-      go (Refused why) e = absurd (n why (d ∙ distance_refused b vals c why e))
+      go (Ok _) e = d ∙ distance_told_lem b vals c e
+      go (Err why) e = absurd (n why (d ∙ distance_refused b vals c why e))
 
   told : (r d : Far) (P Q : Type 0) → Distances b vals c r → NotRefused r → (distance (limit b) vals c ≡ d) ↔ P → (P → Q) → (Q → P) → (r ≡ d) ↔ Q
   told r d P Q e n q f g = let a = answer r e n in (λ h. f (q.0 (sym a ∙ h)), λ p. a ∙ q.1 (g p))

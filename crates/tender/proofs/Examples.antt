@@ -1,12 +1,11 @@
 -- P1 to P10 and the sample hold. Most of it computes. Assumes nothing.
 use mathlib.Core.Path.{◌≡◌, refl, ap}
+use Rattle.std.specs.Prelude.{Err}
 use mathlib.Core.Bool.{true, false}
 use mathlib.Core.List.{[], ◌∷◌}
 use Prim.Native.Nat.{ℕ, ◌*◌, ◌^◌}
 use native.Mathlib.Omega.{arith}
 use lib.IntN.{pos, +ℤ_invr}
-use Rattle.meaning.specs.declared.Answer.{Answer}
-use Rattle.meaning.specs.declared.Answer.TheVariants.{Refused}
 use Rattle.meaning.specs.declared.Refusal.TheVariants as no
 use Rattle.meaning.specs.declared.Row.{Row}
 use Rattle.meaning.specs.Basics.{index_from, sum_of, first_some, and_then, zeros_in, zeros}
@@ -18,7 +17,7 @@ use Rattle.meaning.specs.Digits.{nonzeros, digits_in, canonic, prefixes_from, pr
 use Rattle.meaning.specs.Generator.{chosen, choice_for, row_for, remaining, rule_a, trials, serve, rule_b, rule_c, or_else, added, turn, turns, generated}
 use Rattle.meaning.specs.Products.{row_product, products_from, products, target_product, target_products}
 use Rattle.meaning.specs.Widths.{least_from, extra_bits, place, ranked_from, ranking}
-use Rattle.meaning.specs.Refusals.{need_each, valid_rows, all_served, first_of, admitted, checked, distance_told}
+use Rattle.meaning.specs.Refusals.{Answer, need_each, valid_rows, all_served, first_of, admitted, checked, distance_told}
 use Rattle.meaning.specs.Text.{stands, unsigned_at, number_at, unsigned_text}
 use Rattle.meaning.specs.Forms.{line_at, line_of, lines_of}
 use Rattle.meaning.specs.Job.{job_of, report_at, numbers, targets_at}
@@ -43,11 +42,11 @@ five_fits = refl
 six_fails : (c : ℕ) → does_fit 9 (five ∷ []) (row 1 0 0 0 0 0 c) ≡ false
 six_fails c = false_of (does_fit 9 (five ∷ []) (row 1 0 0 0 0 0 c)) (λ t. six c (fits_of_test 9 (five ∷ []) (row 1 0 0 0 0 0 c) t).operation)
 
-six_row : (c : ℕ) → valid_rows 8 (five ∷ row 1 0 0 0 0 0 c ∷ []) ≡ Refused (no.Row 2)
+six_row : (c : ℕ) → valid_rows 8 (five ∷ row 1 0 0 0 0 0 c ∷ []) ≡ Err (no.Row 2)
 unfolding need_each
 six_row c = rw (five_fits, six_fails c) refl
 
-six_refused : (c : ℕ) → checked 8 (pos 5 ∷ []) 2 (0 ∷ 0 ∷ 0 ∷ 2 ∷ 0 ∷ 0 ∷ 5 ∷ 1 ∷ 0 ∷ 0 ∷ 0 ∷ 0 ∷ 0 ∷ c ∷ []) ≡ Refused (no.Row 2)
+six_refused : (c : ℕ) → checked 8 (pos 5 ∷ []) 2 (0 ∷ 0 ∷ 0 ∷ 2 ∷ 0 ∷ 0 ∷ 5 ∷ 1 ∷ 0 ∷ 0 ∷ 0 ∷ 0 ∷ 0 ∷ c ∷ []) ≡ Err (no.Row 2)
 unfolding checked need_each rows zeros zeros_in
 six_refused c = ap (λ (a : Answer). first_of (a ∷ all_served (five ∷ row 1 0 0 0 0 0 c ∷ []) (pos 5 ∷ []) ∷ [])) (six_row c)
 

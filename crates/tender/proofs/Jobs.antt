@@ -1,5 +1,6 @@
 -- What is printed for a job's text: the line of its refusal exactly if it is refused, and else its listing. Assumes nothing.
 use mathlib.Core.Path.{◌≡◌, refl, sym, ap, ap₂, ◌∙◌}
+use Rattle.std.specs.Prelude.{Ok, Err}
 use mathlib.Core.Bool.{Bool, true, false, cond}
 use mathlib.Core.List.{List, [], ◌++◌}
 use mathlib.Core.Logic.{◌⊎◌, inl, inr}
@@ -7,14 +8,11 @@ use Prim.Native.Nat.{ℕ, ◌≤◌}
 use native.Mathlib.Omega.{arith}
 use lib.Dec.{leb}
 use lib.ListN.{length, drop}
-use Rattle.meaning.specs.declared.Answer.{Answer}
-use Rattle.meaning.specs.declared.Answer.TheVariants.{Accepted, Refused}
-use Rattle.meaning.specs.declared.Printed.TheVariants as printed
 use Rattle.meaning.specs.declared.Refusal.TheVariants as no
 use Rattle.meaning.specs.Basics.{over}
 use Rattle.meaning.specs.Job.{Asked, Job, asks, malformed, job_of, job_order}
 use Rattle.meaning.specs.Listing.{job_text, printed_told, text_written}
-use Rattle.meaning.specs.Refusals.{number, place_of, first_of}
+use Rattle.meaning.specs.Refusals.{Answer, Accepted, number, place_of, first_of}
 use Rattle.meaning.specs.Calls.{Prints}
 use Rattle.laws.proofs.Refusals.Stages.{never_both}
 use Rattle.tender.specs.Words.{Written}
@@ -25,13 +23,13 @@ use Rattle.tender.proofs.Grammar.{job_asks, job_malformed}
 use Rattle.tender.proofs.Condition1.{exactly, job_told}
 use Rattle.tender.proofs.Listing.{listed_text, refused_text, malformed_text, text_fits}
 
-module _ (s : List ℕ) (k : ℕ) (before after : List ℕ) (d : Prints s (printed.Bytes k) before after) where
+module _ (s : List ℕ) (k : ℕ) (before after : List ℕ) (d : Prints s (Ok k) before after) where
   -- a text that is printed is the whole of it
   pub whole : (k ≡ length (job_text s)) × Written (job_text s) before after
   unfolding printed_told text_written over
   whole = go (leb 8769 (length before)) d.answers d.writes
     where
-      go : (b : Bool) → printed.Bytes k ≡ cond b (printed.Bytes (length (job_text s))) (printed.Refused no.Buffer)
+      go : (b : Bool) → Ok k ≡ cond b (Ok (length (job_text s))) (Err no.Buffer)
           → after ≡ cond b (job_text s) [] ++ drop (length (cond b (job_text s) [])) before → (k ≡ length (job_text s)) × Written (job_text s) before after
       go true e f = (cc, f)
       go false e f = absurd (let z : ◌≡◌ {A = ℕ} 0 1 = cc in omega arith)
@@ -53,8 +51,8 @@ module _ (s : List ℕ) (k : ℕ) (before after : List ℕ) (d : Prints s (print
   listed j a n = whole_as (listing_for j) (listed_text s j ((job_asks s j).1 a) (accepts (first_of (job_order j)) refl))
     where
       accepts : (r : Answer) → first_of (job_order j) ≡ r → first_of (job_order j) ≡ Accepted
-      accepts Accepted e = e
-      accepts (Refused why) e = absurd (n (number why) (place_of why) (inr (j, a, (exactly (job_order j) (job_lines j) (job_told j) (number why) (place_of why)).0 (why, e, refl, refl))))
+      accepts (Ok _) e = e
+      accepts (Err why) e = absurd (n (number why) (place_of why) (inr (j, a, (exactly (job_order j) (job_lines j) (job_told j) (number why) (place_of why)).0 (why, e, refl, refl))))
 
 -- every text is refused, or asks for a job that is not
 pub every_text : (s : List ℕ) → ((N : ℕ) × (P : ℕ) × JobRefused s N P) ⊎ ((j : Asked) × AsksFor s j × ((N P : ℕ) → ¬ (JobRefused s N P)))
@@ -75,8 +73,8 @@ every_text s = by_job (job_of s) refl
 
     by_order : (j : Asked) → job_of s ≡ asks j → (r : Answer) → first_of (job_order j) ≡ r
         → ((N : ℕ) × (P : ℕ) × JobRefused s N P) ⊎ ((j : Asked) × AsksFor s j × ((N P : ℕ) → ¬ (JobRefused s N P)))
-    by_order j e Accepted a = inr (j, (job_asks s j).0 e, no_refusal j e a)
-    by_order j e (Refused why) a =
+    by_order j e (Ok _) a = inr (j, (job_asks s j).0 e, no_refusal j e a)
+    by_order j e (Err why) a =
         inl (number why, place_of why, inr (j, (job_asks s j).0 e, (exactly (job_order j) (job_lines j) (job_told j) (number why) (place_of why)).0 (why, a, refl, refl)))
 
     by_job : (x : Job) → job_of s ≡ x → ((N : ℕ) × (P : ℕ) × JobRefused s N P) ⊎ ((j : Asked) × AsksFor s j × ((N P : ℕ) → ¬ (JobRefused s N P)))

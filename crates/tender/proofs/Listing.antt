@@ -1,5 +1,6 @@
 -- What is printed for a job: its listing is the lines of the statement, or the line of its refusal; and what each number in it is. Assumes nothing.
 use mathlib.Core.Path.{◌≡◌, refl, sym, ap, ap₂, ◌∙◌, subst}
+use Rattle.std.specs.Prelude.{Err}
 use mathlib.Core.Bool.{Bool, true, false, cond}
 use mathlib.Core.List.{List, [], ◌∷◌, ◌++◌, map, append_assoc, Memᴰ, Permᴰ}
 use Prim.Native.Nat.{ℕ, zero, suc, ◌+◌, ◌-◌, ◌*◌, ◌%◌, ◌^◌, ◌≤◌, ◌<◌}
@@ -8,8 +9,6 @@ use lib.Dec.{T, eqb, leb, leb→le}
 use borrow.Author.Tests.{leb-false}
 use lib.IntN.{ℤ, pos, negsuc, nat_abs, ◌+ℤ◌, ◌*ℤ◌, zero-*ℤ}
 use lib.ListN.{length, get_or}
-use Rattle.meaning.specs.declared.Answer.{Answer}
-use Rattle.meaning.specs.declared.Answer.TheVariants.{Accepted, Refused}
 use Rattle.meaning.specs.declared.Head.{Head}
 use Rattle.meaning.specs.declared.Refusal.{Refusal}
 use Rattle.meaning.specs.declared.Refusal.TheVariants as no
@@ -23,7 +22,7 @@ use Rattle.meaning.specs.Graph.{rows, values, is_served, output_index}
 use Rattle.meaning.specs.Job.{Asked, asks, malformed, job_of, natural, input_of, rows_of, job_order}
 use Rattle.meaning.specs.Limits.{width_tests}
 use Rattle.meaning.specs.Listing as meant
-use Rattle.meaning.specs.Refusals.{number, place_of, input_width, first_of, given, widths_written}
+use Rattle.meaning.specs.Refusals.{Answer, Accepted, number, place_of, input_width, first_of, given, widths_written}
 use Rattle.meaning.specs.Text.{bytes, text_of, value_of as digitValue}
 use Rattle.meaning.specs.Widths.{extra_bits, row_width, output_width, InOrder, widths as meant-widths}
 use Rattle.laws.proofs.Constants.Apart.{apart_whole}
@@ -143,8 +142,8 @@ module _ (s : List ℕ) where
   listed_text j e f =
       told_text j Accepted e f ∙ listing_is j (input_of j.head) (input_is j.head.input (first_accepts (job_order j) f).1.1.1.1.0)
 
-  pub refused_text : (j : Asked) (why : Refusal) → job_of s ≡ asks j → first_of (job_order j) ≡ Refused why → meant.job_text s ≡ refused_line (number why) (place_of why)
-  refused_text j why e f = told_text j (Refused why) e f ∙ refused_is why
+  pub refused_text : (j : Asked) (why : Refusal) → job_of s ≡ asks j → first_of (job_order j) ≡ Err why → meant.job_text s ≡ refused_line (number why) (place_of why)
+  refused_text j why e f = told_text j (Err why) e f ∙ refused_is why
 
   pub malformed_text : (p : ℕ) → job_of s ≡ malformed p → meant.job_text s ≡ refused_line 12 p
   malformed_text p e = law.malformed_text s p e ∙ refused_is (no.Job p)

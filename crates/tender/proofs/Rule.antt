@@ -12,7 +12,6 @@ use borrow.Author.Tests.{le-ltb}
 use lib.Dec.{T}
 use lib.IntN.{ℤ, pos, ◌+ℤ◌}
 use lib.ListN.{length}
-use Rattle.meaning.specs.declared.Answer.TheVariants.{Accepted}
 use Rattle.meaning.specs.declared.Prefix.{Prefix}
 use Rattle.meaning.specs.declared.Row.{Row}
 use Rattle.meaning.specs.Basics.{has, index_from}
@@ -21,7 +20,7 @@ use Rattle.meaning.specs.Constants.{wanted, Ascending}
 use Rattle.meaning.specs.Digits.{Digit, minus, none, plus, worth, prefixes_from, prefixes}
 use Rattle.meaning.specs.Graph.{Fits}
 use Rattle.meaning.specs.Generator.{row_for, remaining, rule_a, rule_b, prefix_row, rule_c, added, Draft, turn, turns, generated}
-use Rattle.meaning.specs.Refusals.{admitted}
+use Rattle.meaning.specs.Refusals.{Accepted, admitted}
 use Rattle.laws.proofs.Lists.Has.{in_has, has_in}
 use Rattle.laws.proofs.Lists.Index.{index_is, index_lowest}
 use Rattle.laws.proofs.Lists.Least.{Ordered, ascending_ordered}

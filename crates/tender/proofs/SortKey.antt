@@ -5,13 +5,12 @@ use Prim.Native.Nat.{ℕ}
 use native.Mathlib.Omega.{arith}
 use lib.IntN.{pos}
 use lib.ListN.{get_or}
-use Rattle.meaning.specs.declared.Answer.{Answer}
 use Rattle.meaning.specs.Basics.{over, zeros_in, zeros}
 use Rattle.meaning.specs.Constants.{apart}
 use Rattle.meaning.specs.Operation.{is_outcome, is_valid}
 use Rattle.meaning.specs.Graph.{rows, does_fit, is_served}
 use Rattle.meaning.specs.Widths.{least_from, extra_bits, place, ranked_from, ranking}
-use Rattle.meaning.specs.Refusals.{need_each, ranked, ranking_written}
+use Rattle.meaning.specs.Refusals.{Answer, need_each, ranked, ranking_written}
 use Rattle.meaning.specs.Calls.{Ranks}
 use Rattle.tender.specs.SortKey.{words, SortKey}
 

@@ -1,11 +1,8 @@
 -- Condition 1: every list, bit limit, graph, ready list and job text is answered, or refused by a line of the table, exactly in its situation, and
 -- nothing is written on refusal. Assumes nothing.
 use Rattle.std.specs.Prelude.{◌≡◌, List, [], ◌∷◌, ◌++◌, ◌⊎◌, ℕ, ◌+◌, ◌≤◌, ℤ, pos, negsuc, length}
-use Rattle.meaning.specs.declared.Answer.TheVariants.{Refused}
-use Rattle.meaning.specs.declared.Drawn.TheVariants as drew
+use Rattle.std.specs.Prelude.{Ok, Err}
 use Rattle.meaning.specs.declared.Far.TheVariants as far
-use Rattle.meaning.specs.declared.Formed.TheVariants as formed
-use Rattle.meaning.specs.declared.Printed.TheVariants as printed
 use Rattle.meaning.specs.Constants.{sign_of, shift_of, odd_of}
 use Rattle.meaning.specs.Job.{Asked, natural}
 use Rattle.meaning.specs.Calls.{Admits, Checks, ChecksWidth, Distances, TakesApart, WritesForm, Generates, Multiplies, Measures, Ranks, Prints}
@@ -14,27 +11,27 @@ use Rattle.tender.specs.Words.{TakenApart, Written}
 use Rattle.tender.specs.Table.{line4, admit_table, check_table, width_table, generate_table, distance_table, JobRefused, Refuses, RefusesLent, refused_line}
 
 pub record Condition1 : Type 1 where
-  pub admit : (b : ℕ) (ts : List ℤ) → Refuses Refused (Admits b ts) (admit_table b ts)
-  pub check : (b : ℕ) (ts : List ℤ) (n : ℕ) (w : List ℕ) → Refuses Refused (Checks b ts n w) (check_table b ts n w)
-  pub check_width : (b : ℕ) (ts : List ℤ) (n : ℕ) (w : List ℕ) (input : ℕ) → Refuses Refused (ChecksWidth b ts n w input) (width_table b ts n w input)
-  pub distance : (b : ℕ) (vals : List ℕ) (c : ℕ) → Refuses far.Refused (Distances b vals c) (distance_table b vals c)
-  pub generate : (b : ℕ) (ts : List ℤ) → RefusesLent drew.Refused (Generates b ts) (generate_table b ts)
+  pub admit : (b : ℕ) (ts : List ℤ) → Refuses Err (Admits b ts) (admit_table b ts)
+  pub check : (b : ℕ) (ts : List ℤ) (n : ℕ) (w : List ℕ) → Refuses Err (Checks b ts n w) (check_table b ts n w)
+  pub check_width : (b : ℕ) (ts : List ℤ) (n : ℕ) (w : List ℕ) (input : ℕ) → Refuses Err (ChecksWidth b ts n w input) (width_table b ts n w input)
+  pub distance : (b : ℕ) (vals : List ℕ) (c : ℕ) → Refuses Err (Distances b vals c) (distance_table b vals c)
+  pub generate : (b : ℕ) (ts : List ℤ) → RefusesLent Err (Generates b ts) (generate_table b ts)
   pub multiply : (b : ℕ) (ts : List ℤ) (n : ℕ) (w : List ℕ) (x : ℤ)
-      → RefusesLent Refused (Multiplies b ts n w x) (λ room. check_table b ts n w ++ (line4 (length ts) room ∷ []))
+      → RefusesLent Err (Multiplies b ts n w x) (λ room. check_table b ts n w ++ (line4 (length ts) room ∷ []))
   pub measure : (b : ℕ) (ts : List ℤ) (n : ℕ) (w : List ℕ) (input : ℕ)
-      → RefusesLent Refused (Measures b ts n w input) (λ room. width_table b ts n w input ++ (line4 (n + length ts) room ∷ []))
+      → RefusesLent Err (Measures b ts n w input) (λ room. width_table b ts n w input ++ (line4 (n + length ts) room ∷ []))
   pub rank : (b : ℕ) (ts : List ℤ) (n : ℕ) (w : List ℕ) (input : ℕ)
-      → RefusesLent Refused (Ranks b ts n w input) (λ room. width_table b ts n w input ++ (line4 n room ∷ []))
-  pub apart : (t : ℤ) → RefusesLent Refused (TakesApart t) (λ room. line4 3 room ∷ [])
-  pub canonic : (t : ℤ) → RefusesLent formed.Refused (WritesForm t) (λ room. line4 2 room ∷ [])
+      → RefusesLent Err (Ranks b ts n w input) (λ room. width_table b ts n w input ++ (line4 n room ∷ []))
+  pub apart : (t : ℤ) → RefusesLent Err (TakesApart t) (λ room. line4 3 room ∷ [])
+  pub canonic : (t : ℤ) → RefusesLent Err (WritesForm t) (λ room. line4 2 room ∷ [])
   -- a job's text is printed if there is room for every text, and none is longer
-  pub print : (s : List ℕ) → RefusesLent printed.Refused (Prints s) (λ room. line4 8769 room ∷ [])
-  pub text_fits : (s : List ℕ) (k : ℕ) (before after : List ℕ) → Prints s (printed.Bytes k) before after → k ≤ 8769
+  pub print : (s : List ℕ) → RefusesLent Err (Prints s) (λ room. line4 8769 room ∷ [])
+  pub text_fits : (s : List ℕ) (k : ℕ) (before after : List ℕ) → Prints s (Ok k) before after → k ≤ 8769
   -- every text is refused, or asks for a job that is not
   pub every_text : (s : List ℕ)
       → ((N : ℕ) × (P : ℕ) × JobRefused s N P) ⊎ ((j : Asked) × AsksFor s j × ((N P : ℕ) → ¬ (JobRefused s N P)))
   -- what is printed for one that is refused; for any other it is the listing
-  pub job : (s : List ℕ) (k : ℕ) (before after : List ℕ) → Prints s (printed.Bytes k) before after → (N P : ℕ) → JobRefused s N P
+  pub job : (s : List ℕ) (k : ℕ) (before after : List ℕ) → Prints s (Ok k) before after → (N P : ℕ) → JobRefused s N P
       → (k ≡ length (refused_line N P)) × Written (refused_line N P) before after
   -- a negative bit limit or input width counts as 0, which is out of range
   pub negative_out : (n : ℕ) → (natural (pos n) ≡ n) × (natural (negsuc n) ≡ 0)

@@ -1,8 +1,7 @@
 -- Condition 2: which graphs are accepted, and what an accepted graph gives. Assumes nothing.
 use Rattle.std.specs.Prelude.{◌≡◌, ◌↔◌, ℕ, suc, ◌+◌, ◌-◌, ◌*◌, ◌^◌, ◌≤◌, ◌<◌, ℤ, pos, negsuc, nat_abs, ◌*ℤ◌, length, get_or, drop}
+use Rattle.meaning.specs.Refusals.{Answer, Accepted}
 use mathlib.Core.List.{List, map, Permᴰ}
-use Rattle.meaning.specs.declared.Answer.{Answer}
-use Rattle.meaning.specs.declared.Answer.TheVariants.{Accepted}
 use Rattle.meaning.specs.declared.Operated.{Operated}
 use Rattle.meaning.specs.declared.Operated.TheVariants.{Made}
 use Rattle.meaning.specs.Basics.{up_from}

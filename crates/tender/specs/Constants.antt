@@ -1,7 +1,7 @@
 -- What the two calls on one constant write. Assumes nothing.
 use Rattle.std.specs.Prelude.{◌≡◌, List, [], ◌∷◌, ℕ, suc, ◌+◌, ◌/◌, ◌%◌, ◌^◌, ◌≤◌, ℤ, pos, nat_abs, ◌-ℤ◌}
-use Rattle.meaning.specs.declared.Answer.TheVariants.{Accepted}
-use Rattle.meaning.specs.declared.Formed.TheVariants.{Digits}
+use Rattle.std.specs.Prelude.{Ok}
+use Rattle.meaning.specs.Refusals.{Accepted}
 use Rattle.meaning.specs.Constants.{sign_of, shift_of, odd_of}
 use Rattle.meaning.specs.Digits.{canonic}
 use Rattle.meaning.specs.Calls.{TakesApart, WritesForm}
@@ -19,5 +19,5 @@ pub record FormOf (t : ℤ) (n p m : ℕ) : Type 0 where
 pub record Constants : Type 0 where
   pub apart : (t : ℤ) (before after : List ℤ) → TakesApart t Accepted before after
       → TakenApart t (sign_of t) (shift_of t) (odd_of t) × Written (sign_of t ∷ pos (shift_of t) ∷ pos (odd_of t) ∷ []) before after
-  pub form : (t : ℤ) (n : ℕ) (before after : List ℕ) → WritesForm t (Digits n) before after
+  pub form : (t : ℤ) (n : ℕ) (before after : List ℕ) → WritesForm t (Ok n) before after
       → (p : ℕ) × (m : ℕ) × FormOf t n p m × Written (p ∷ m ∷ []) before after

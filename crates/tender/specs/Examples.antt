@@ -1,9 +1,8 @@
 -- The proved sums of document 01, P1 to P10, and its sample listing to the byte, as one table; b = 8 throughout. Assumes nothing.
 use Rattle.std.specs.Prelude.{◌≡◌, List, [], ◌∷◌, ◌++◌, ℕ, ℤ, pos, neg_ℤ}
-use Rattle.meaning.specs.declared.Answer.TheVariants.{Accepted, Refused}
+use Rattle.std.specs.Prelude.{Ok, Err}
 use Rattle.meaning.specs.declared.Far.TheVariants.{Zero, One, Two, Beyond}
 use Rattle.meaning.specs.declared.Operated.TheVariants.{Made}
-use Rattle.meaning.specs.declared.Printed.TheVariants.{Bytes}
 use Rattle.meaning.specs.declared.Refusal.TheVariants as no
 use Rattle.meaning.specs.declared.Row.{Row}
 use Rattle.meaning.specs.Constants.{apart}
@@ -11,7 +10,7 @@ use Rattle.meaning.specs.Operation.{whole, Valid, operated_under}
 use Rattle.meaning.specs.Generator.{generated}
 use Rattle.meaning.specs.Products.{products, target_products}
 use Rattle.meaning.specs.Widths.{row_width}
-use Rattle.meaning.specs.Refusals.{number, admitted, checked, distance_told}
+use Rattle.meaning.specs.Refusals.{Accepted, number, admitted, checked, distance_told}
 use Rattle.meaning.specs.Text.{bytes}
 use Rattle.meaning.specs.Calls.{Prints}
 use Rattle.tender.specs.Words.{Written}
@@ -52,14 +51,14 @@ pub record Examples : Type 0 where
   pub p5 : distance_told 8 (1 ∷ 5 ∷ []) 45 ≡ One
   -- P6: u = 5, v = 1, no left shifts, s = 0: n = 6, r = 1, value 3; with r = 0, as row 2 after a row of 5, it is refusal 6 by check whatever its value
   pub p6 : operated_under 8 5 1 0 0 0 ≡ Made (pos 6) 1 3
-  pub p6_refused : (c : ℕ) → checked 8 (pos 5 ∷ []) 2 (0 ∷ 0 ∷ 0 ∷ 2 ∷ 0 ∷ 0 ∷ 5 ∷ 1 ∷ 0 ∷ 0 ∷ 0 ∷ 0 ∷ 0 ∷ c ∷ []) ≡ Refused (no.Row 2)
+  pub p6_refused : (c : ℕ) → checked 8 (pos 5 ∷ []) 2 (0 ∷ 0 ∷ 0 ∷ 2 ∷ 0 ∷ 0 ∷ 5 ∷ 1 ∷ 0 ∷ 0 ∷ 0 ∷ 0 ∷ 0 ∷ c ∷ []) ≡ Err (no.Row 2)
   pub p6_number : number (no.Row 2) ≡ 6
   -- P7: u = v, no left shifts, s = 1: n = 0, never valid, under any limit
   pub p7_n : (u : ℕ) → whole u u 0 0 1 ≡ pos 0
   pub p7 : (L u r c : ℕ) → ¬ (Valid L u u 0 0 1 r c)
   -- P8: 255 passes, 257 is refusal 3 at the first target, 768 passes with odd part 3
   pub p8 : admitted 8 (pos 255 ∷ []) ≡ Accepted
-  pub p8_over : admitted 8 (pos 257 ∷ []) ≡ Refused (no.OddPart 1)
+  pub p8_over : admitted 8 (pos 257 ∷ []) ≡ Err (no.OddPart 1)
   pub p8_number : number (no.OddPart 1) ≡ 3
   pub p8_even : admitted 8 (pos 768 ∷ []) ≡ Accepted
   pub p8_parts : apart (pos 768) ≡ record { sign = pos 1; shift = 8; odd = 3 }
@@ -69,4 +68,4 @@ pub record Examples : Type 0 where
   -- P10: a row of value 3 for inputs of 2 bits is 4 bits wide
   pub p10 : row_width 2 3 ≡ 4
   -- the sample
-  pub sample : (k : ℕ) (before after : List ℕ) → Prints sample_job (Bytes k) before after → Written sample_listing before after
+  pub sample : (k : ℕ) (before after : List ℕ) → Prints sample_job (Ok k) before after → Written sample_listing before after

@@ -1,9 +1,9 @@
 -- The listing: what is printed for a job that is not refused, line by line, and what each of its numbers is. Assumes nothing.
 use Rattle.std.specs.Prelude.{◌≡◌, Bool, true, false, ℕ, suc, ◌+◌, ◌-◌, ◌*◌, ◌^◌, ◌≤◌, ◌<◌, ℤ, pos, negsuc, ◌*ℤ◌, length, get_or}
+use Rattle.std.specs.Prelude.{Ok}
+use Rattle.meaning.specs.Refusals.{Accepted}
 use mathlib.Core.List.{List, [], ◌∷◌, ◌++◌, map, Memᴰ, Permᴰ}
-use Rattle.meaning.specs.declared.Answer.TheVariants.{Accepted}
 use Rattle.meaning.specs.declared.Head.{Head}
-use Rattle.meaning.specs.declared.Printed.TheVariants.{Bytes}
 use Rattle.meaning.specs.declared.Row.{Row}
 use Rattle.meaning.specs.Basics.{up_from}
 use Rattle.meaning.specs.Constants.{sign_of, shift_of, odd_of, wanted}
@@ -83,7 +83,7 @@ listing_for j =
 
 pub record Listing : Type 0 where
   -- this is printed for a text that asks for j and is not refused
-  pub prints : (s : List ℕ) (j : Asked) (k : ℕ) (before after : List ℕ) → Prints s (Bytes k) before after → AsksFor s j
+  pub prints : (s : List ℕ) (j : Asked) (k : ℕ) (before after : List ℕ) → Prints s (Ok k) before after → AsksFor s j
       → ((N P : ℕ) → ¬ (JobRefused s N P)) → (k ≡ length (listing_for j)) × Written (listing_for j) before after
   -- each row has one line: widest first, equal widths by lower row; or by row number
   pub rows_once : (by_width : Bool) (xs : List Row) → Permᴰ (row_order by_width (values_of xs)) (up_from 1 (length xs))

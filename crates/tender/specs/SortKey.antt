@@ -1,7 +1,7 @@
 -- The generator that Tauwaage replaces kept each adder's peak in a signed 32-bit field and ranked by it. Two rows tell its ranking
 -- from ours, so that no program which ranks by such peaks meets the contract of the ranking. Assumes nothing.
 use Rattle.std.specs.Prelude.{◌≡◌, cond, List, [], ◌∷◌, map, ℕ, ◌-◌, ◌%◌, ◌^◌, ltb, ℤ, pos, neg_ℤ}
-use Rattle.meaning.specs.declared.Answer.{Answer}
+use Rattle.meaning.specs.Refusals.{Answer}
 use Rattle.meaning.specs.Widths.{row_width, ranking}
 use Rattle.meaning.specs.Calls.{Ranks}
 

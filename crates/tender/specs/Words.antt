@@ -1,5 +1,6 @@
 -- The buyer's words, as the conditions use them: constants, graphs, distance, bits, orders, lent slices. Assumes nothing.
 use Rattle.std.specs.Prelude.{◌≡◌, cond, ◌⊎◌, ℕ, zero, suc, ◌+◌, ◌-◌, ◌*◌, ◌%◌, ◌^◌, ◌≤◌, ◌<◌, ltb, ℤ, pos, negsuc, neg_ℤ, nat_abs, ◌+ℤ◌, ◌-ℤ◌, ◌*ℤ◌, length, get_or, drop}
+use Rattle.std.specs.Prelude.{Err}
 use mathlib.Core.List.{List, [], ◌∷◌, ◌++◌, map, Memᴰ}
 use Rattle.meaning.specs.declared.Row.{Row}
 use Rattle.meaning.specs.Constants.{odd_of}
@@ -126,7 +127,7 @@ pub record ByTwo (b : ℕ) (vals : List ℕ) (c : ℕ) : Type 0 where
   pub second : ByOne b (s ∷ vals) c
 
 abbrev pub NotRefused : Far → Type 0
-NotRefused r = (why : Refusal) → ¬ (r ≡ far.Refused why)
+NotRefused r = (why : Refusal) → ¬ (r ≡ Err why)
 
 -- ---- bits, two's complement
 

@@ -4,10 +4,9 @@ use mathlib.Core.Path.{◌≡◌, sym, ap, ◌∙◌}
 use mathlib.Core.List.{[]}
 use Prim.Native.Nat.{ℕ, ◌≤◌}
 use native.Mathlib.Omega.{arith}
-use Rattle.meaning.specs.declared.Answer.TheVariants.{Accepted}
 use Rattle.meaning.specs.declared.Refusal.TheVariants as no
 use Rattle.meaning.specs.Limits.{limit}
-use Rattle.meaning.specs.Refusals.{admitted}
+use Rattle.meaning.specs.Refusals.{Accepted, admitted}
 use lib.Dec.{leb, leb→le}
 use Rattle.laws.proofs.Lists.Tests.{T_of}
 use Rattle.laws.proofs.Refusals.Checked.{admitted_of}

@@ -8,11 +8,10 @@ use lib.Dec.{leb→le}
 use lib.IntN.{ℤ}
 use lib.ListN.{length}
 use Rattle.meaning.specs.Limits.{most_rows}
-use Rattle.meaning.specs.declared.Answer.{Answer}
 use Rattle.meaning.specs.declared.Refusal.TheVariants as no
 use Rattle.meaning.specs.Basics.{all}
 use Rattle.meaning.specs.Graph.{row_length, row_tests, rows}
-use Rattle.meaning.specs.Refusals.{admit_order, row_count, valid_rows, all_served, admitted, checked, first_of}
+use Rattle.meaning.specs.Refusals.{Answer, admit_order, row_count, valid_rows, all_served, admitted, checked, first_of}
 use Rattle.laws.proofs.Lists.Tests.{T_of, all_of}
 use Rattle.laws.proofs.Refusals.Stages.{stops, passes, last, stops_at, passes_on}
 use Rattle.laws.proofs.Refusals.Checked.{Admitted, admitted_of}

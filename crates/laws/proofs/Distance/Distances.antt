@@ -1,6 +1,7 @@
 -- Distance as statements: what each answer says, both ways; only the list's members count, so that repeats change nothing; and what a call that is
 -- not refused was asked. Assumes nothing.
 use mathlib.Core.Path.{◌≡◌, refl, ap, ◌∙◌}
+use Rattle.std.specs.Prelude.{Ok, Err}
 use mathlib.Core.Bool.{Bool, true, false, ◌&&◌, cond}
 use mathlib.Core.List.Memᴰ
 use mathlib.Core.List.{List, [], ◌∷◌, Memᴰ}
@@ -10,16 +11,14 @@ use native.Mathlib.Omega.{arith}
 use native.Mathlib.Decide.{ℕ_discrete}
 use lib.Dec.{T, ltb, eqb, leb→le, ltb→lt, eqb→eq}
 use lib.ListN.{length}
-use Rattle.meaning.specs.declared.Answer.TheVariants.{Accepted, Refused}
 use Rattle.meaning.specs.declared.Far.{Far}
 use Rattle.meaning.specs.declared.Far.TheVariants.{Zero, One, Two, Beyond}
-use Rattle.meaning.specs.declared.Far.TheVariants as far
 use Rattle.meaning.specs.declared.Refusal.{Refusal}
 use Rattle.meaning.specs.declared.Refusal.TheVariants as no
 use Rattle.meaning.specs.Basics.{any, has}
 use Rattle.meaning.specs.Distance.{does_reach, does_serve, candidates, distance, Reached, ReachedTwice}
 use Rattle.meaning.specs.Limits.{between, bit_tests, limit, most_ready}
-use Rattle.meaning.specs.Refusals.{first_of, distance_order, far_as, distance_told}
+use Rattle.meaning.specs.Refusals.{Accepted, first_of, distance_order, told, distance_told}
 use Rattle.laws.proofs.Lists.Tests.{both_of, of_both, any_in, in_any, true_of, bool_ext}
 use Rattle.laws.proofs.Refusals.Stages.{first_accepts, need_accepts}
 use Rattle.laws.proofs.Refusals.Members.{each_accepts, pass_in}
@@ -55,65 +54,65 @@ twice_is L vals c = (
 
 -- ---- the four answers
 
-abbrev told : (zero one two : Bool) → Far
-told zero one two = cond zero Zero (cond one One (cond two Two Beyond))
+abbrev far : (zero one two : Bool) → Far
+far zero one two = cond zero Zero (cond one One (cond two Two Beyond))
 
 -- of three tests that say A, B and C
 module _ {A B C : Type 0} (a b c : Bool) (p : T a ↔ A) (q : T b ↔ B) (r : T c ↔ C) where
-  told_zero : (told a b c ≡ Zero) ↔ A
-  told_zero = (λ e. p.0 (go a b c e), λ x. ap (λ t. told t b c) (true_of a (p.1 x)))
+  told_zero : (far a b c ≡ Zero) ↔ A
+  told_zero = (λ e. p.0 (go a b c e), λ x. ap (λ t. far t b c) (true_of a (p.1 x)))
     where
-      go : (a b c : Bool) → told a b c ≡ Zero → T a
+      go : (a b c : Bool) → far a b c ≡ Zero → T a
       go true b c e = tt
       go false true c e = absurd (let z : ◌≡◌ {A = ℕ} 0 1 = cc in omega arith)
       go false false true e = absurd (let z : ◌≡◌ {A = ℕ} 0 1 = cc in omega arith)
       go false false false e = absurd (let z : ◌≡◌ {A = ℕ} 0 1 = cc in omega arith)
 
-  told_one : (told a b c ≡ One) ↔ ((¬ A) × B)
+  told_one : (far a b c ≡ One) ↔ ((¬ A) × B)
   told_one = (λ e. let (x, y) = go a b c e in (λ k. x (p.1 k), q.0 y), λ k. back a b c (λ t. k.0 (p.0 t)) (q.1 k.1))
     where
-      go : (a b c : Bool) → told a b c ≡ One → (¬ T a) × T b
+      go : (a b c : Bool) → far a b c ≡ One → (¬ T a) × T b
       go true b c e = absurd (let z : ◌≡◌ {A = ℕ} 0 1 = cc in omega arith)
       go false true c e = (λ t. t, tt)
       go false false true e = absurd (let z : ◌≡◌ {A = ℕ} 0 1 = cc in omega arith)
       go false false false e = absurd (let z : ◌≡◌ {A = ℕ} 0 1 = cc in omega arith)
 
-      back : (a b c : Bool) → (¬ T a) → T b → told a b c ≡ One
+      back : (a b c : Bool) → (¬ T a) → T b → far a b c ≡ One
       back true b c n t = absurd (n tt)
       back false true c n t = refl
       back false false c n t = absurd t
 
-  told_two : (told a b c ≡ Two) ↔ ((¬ A) × (¬ B) × C)
+  told_two : (far a b c ≡ Two) ↔ ((¬ A) × (¬ B) × C)
   told_two = (
     λ e. let (x, y, z) = go a b c e in (λ k. x (p.1 k), λ k. y (q.1 k), r.0 z),
     λ k. back a b c (λ t. k.0 (p.0 t)) (λ t. k.1 (q.0 t)) (r.1 k.2),
   )
     where
-      go : (a b c : Bool) → told a b c ≡ Two → (¬ T a) × (¬ T b) × T c
+      go : (a b c : Bool) → far a b c ≡ Two → (¬ T a) × (¬ T b) × T c
       go true b c e = absurd (let z : ◌≡◌ {A = ℕ} 0 1 = cc in omega arith)
       go false true c e = absurd (let z : ◌≡◌ {A = ℕ} 0 1 = cc in omega arith)
       go false false true e = (λ t. t, λ t. t, tt)
       go false false false e = absurd (let z : ◌≡◌ {A = ℕ} 0 1 = cc in omega arith)
 
-      back : (a b c : Bool) → (¬ T a) → (¬ T b) → T c → told a b c ≡ Two
+      back : (a b c : Bool) → (¬ T a) → (¬ T b) → T c → far a b c ≡ Two
       back true b c n m t = absurd (n tt)
       back false true c n m t = absurd (m tt)
       back false false true n m t = refl
       back false false false n m t = absurd t
 
-  told_beyond : (told a b c ≡ Beyond) ↔ ((¬ A) × (¬ B) × (¬ C))
+  told_beyond : (far a b c ≡ Beyond) ↔ ((¬ A) × (¬ B) × (¬ C))
   told_beyond = (
     λ e. let (x, y, z) = go a b c e in (λ k. x (p.1 k), λ k. y (q.1 k), λ k. z (r.1 k)),
     λ k. back a b c (λ t. k.0 (p.0 t)) (λ t. k.1 (q.0 t)) (λ t. k.2 (r.0 t)),
   )
     where
-      go : (a b c : Bool) → told a b c ≡ Beyond → (¬ T a) × (¬ T b) × (¬ T c)
+      go : (a b c : Bool) → far a b c ≡ Beyond → (¬ T a) × (¬ T b) × (¬ T c)
       go true b c e = absurd (let z : ◌≡◌ {A = ℕ} 0 1 = cc in omega arith)
       go false true c e = absurd (let z : ◌≡◌ {A = ℕ} 0 1 = cc in omega arith)
       go false false true e = absurd (let z : ◌≡◌ {A = ℕ} 0 1 = cc in omega arith)
       go false false false e = (λ t. t, λ t. t, λ t. t)
 
-      back : (a b c : Bool) → (¬ T a) → (¬ T b) → (¬ T c) → told a b c ≡ Beyond
+      back : (a b c : Bool) → (¬ T a) → (¬ T b) → (¬ T c) → far a b c ≡ Beyond
       back true b c n m o = absurd (n tt)
       back false true c n m o = absurd (m tt)
       back false false true n m o = absurd (o tt)
@@ -161,19 +160,19 @@ distance_same L xs ys c h k =
     let e : has xs c ≡ has ys c = same_test _ _ (has_is L xs c) (has_is L ys c) (h c) (k c) in
     let f : does_reach L xs c ≡ does_reach L ys c = reach_same L xs ys c h k in
     let g : is_two L xs c ≡ is_two L ys c = same_test _ _ (twice_is L xs c) (twice_is L ys c) (twice_within L xs ys c h) (twice_within L ys xs c k) in
-    ap (λ t. told t (does_reach L xs c) (is_two L xs c)) e ∙ ap (λ t. told (has ys c) t (is_two L xs c)) f ∙ ap (λ t. told (has ys c) (does_reach L ys c) t) g
+    ap (λ t. far t (does_reach L xs c) (is_two L xs c)) e ∙ ap (λ t. far (has ys c) t (is_two L xs c)) f ∙ ap (λ t. far (has ys c) (does_reach L ys c) t) g
 
 -- ---- the call
 
 -- where nothing is refused, the answer is the distance under the limit
-pub distance_told_lem : (b : ℕ) (vals : List ℕ) (c : ℕ) → first_of (distance_order b vals c) ≡ Accepted → distance_told b vals c ≡ distance (limit b) vals c
+pub distance_told_lem : (b : ℕ) (vals : List ℕ) (c : ℕ) → first_of (distance_order b vals c) ≡ Accepted → distance_told b vals c ≡ Ok (distance (limit b) vals c)
 unfolding distance_told
-distance_told_lem b vals c e = ap (λ a. far_as a (distance (limit b) vals c)) e
+distance_told_lem b vals c e = ap (λ a. told a (distance (limit b) vals c)) e
 
 -- and a refusal is told
-pub distance_refused : (b : ℕ) (vals : List ℕ) (c : ℕ) (why : Refusal) → first_of (distance_order b vals c) ≡ Refused why → distance_told b vals c ≡ far.Refused why
+pub distance_refused : (b : ℕ) (vals : List ℕ) (c : ℕ) (why : Refusal) → first_of (distance_order b vals c) ≡ Err why → distance_told b vals c ≡ Err why
 unfolding distance_told
-distance_refused b vals c why e = ap (λ a. far_as a (distance (limit b) vals c)) e
+distance_refused b vals c why e = ap (λ a. told a (distance (limit b) vals c)) e
 
 -- a bit limit, a ready list and a target that are not refused
 pub record Askable (b : ℕ) (vals : List ℕ) (c : ℕ) : Type 0 where

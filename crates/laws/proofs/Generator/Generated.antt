@@ -1,5 +1,6 @@
 -- The generator's graph: every row is valid, every wanted constant is made, the check accepts it, and a 129th row is never needed. Assumes nothing.
 use mathlib.Core.Path.{◌≡◌, refl, sym, ap, ap₂, ◌∙◌, subst⁻¹}
+use Rattle.std.specs.Prelude.{Ok, Err}
 use mathlib.Core.Bool.{Bool, true, false, cond, ◌||◌}
 use mathlib.Core.List.Memᴰ
 use mathlib.Core.List.{List, [], ◌∷◌, ◌++◌, Memᴰ}
@@ -11,9 +12,6 @@ use borrow.Author.Tests.{leb-false}
 use lib.Dec.{T, leb, le→leb, leb→le}
 use lib.IntN.{ℤ}
 use lib.ListN.{length, drop, length-append}
-use Rattle.meaning.specs.declared.Answer.{Answer}
-use Rattle.meaning.specs.declared.Answer.TheVariants.{Accepted, Refused}
-use Rattle.meaning.specs.declared.Drawn.TheVariants as out
 use Rattle.meaning.specs.declared.Refusal.{Refusal}
 use Rattle.meaning.specs.declared.Refusal.TheVariants as no
 use Rattle.meaning.specs.declared.Prefix.{Prefix}
@@ -25,7 +23,7 @@ use Rattle.meaning.specs.Operation.{Valid}
 use Rattle.meaning.specs.Graph.{row_length, rows, flat, values, ready, value_at, Fits, Sound, is_served}
 use Rattle.meaning.specs.Digits.{prefixes}
 use Rattle.meaning.specs.Generator.{remaining, rule_a, rule_b, prefix_row, rule_c, added, Draft, turn, turns, generated}
-use Rattle.meaning.specs.Refusals.{buffer, few_rows, first_of, admit_order, generate_order, admitted, checked, Done, drawn_as, drawn, drawn_told, rows_written, given}
+use Rattle.meaning.specs.Refusals.{Answer, Accepted, buffer, few_rows, first_of, admit_order, generate_order, admitted, checked, Done, told, drawn, drawn_told, rows_written, given}
 use Rattle.laws.proofs.Lists.Tests.{T_of}
 use Rattle.laws.proofs.Graph.Rows.{rows_flat, length_flat, sound_append}
 use Rattle.laws.proofs.Digits.Chain.{Chain, chain_is, PrefixRow, prefix_row_lem}
@@ -144,17 +142,17 @@ drawn_is b ts room = go (admitted b ts) refl
     B = buffer (row_length * most_rows) room
 
     last : (a f : Answer) → f ≡ Accepted → first_of (a ∷ f ∷ []) ≡ first_of (a ∷ [])
-    last Accepted f e = ap (λ x. first_of (x ∷ [])) e
-    last (Refused why) f e = refl
+    last (Ok _) f e = ap (λ x. first_of (x ∷ [])) e
+    last (Err why) f e = refl
 
     go : (a : Answer) → admitted b ts ≡ a → first_of (admit_order b ts ++ (B ∷ few_rows (generated b ts) ∷ [])) ≡ first_of (admit_order b ts ++ (B ∷ []))
-    go Accepted e =
+    go (Ok _) e =
         passes_on (admit_order b ts) (B ∷ few_rows (generated b ts) ∷ []) Accepted (sym e) refl
         ∙ last B (few_rows (generated b ts)) (few_accepts b ts e)
         ∙ sym (passes_on (admit_order b ts) (B ∷ []) Accepted (sym e) refl)
-    go (Refused why) e =
-        sym (stops_at (admit_order b ts) (B ∷ few_rows (generated b ts) ∷ []) (Refused why) why (sym e) refl)
-        ∙ stops_at (admit_order b ts) (B ∷ []) (Refused why) why (sym e) refl
+    go (Err why) e =
+        sym (stops_at (admit_order b ts) (B ∷ few_rows (generated b ts) ∷ []) (Err why) why (sym e) refl)
+        ∙ stops_at (admit_order b ts) (B ∷ []) (Err why) why (sym e) refl
 
 pub drawn_accepts : (b : ℕ) (ts : List ℤ) (room : ℕ) → admitted b ts ≡ Accepted → row_length * most_rows ≤ room → drawn b ts room ≡ Accepted
 unfolding admitted
@@ -186,12 +184,12 @@ pub record Call (b : ℕ) (ts : List ℤ) (n : ℕ) (before now : List ℕ) : Ty
   pub few : n ≤ most_rows
   pub writes : now ≡ over (flat (generated b ts)) before
 
-reports : (a : Answer) (m n : ℕ) → out.Rows n ≡ drawn_as a m → (a ≡ Accepted) × (n ≡ m)
-reports Accepted m n e = (refl, cc)
-reports (Refused why) m n e = absurd (let z : ◌≡◌ {A = ℕ} 0 1 = cc in omega arith)
+reports : (a : Answer) (m n : ℕ) → Ok n ≡ told a m → (a ≡ Accepted) × (n ≡ m)
+reports (Ok _) m n e = (refl, cc)
+reports (Err why) m n e = absurd (let z : ◌≡◌ {A = ℕ} 0 1 = cc in omega arith)
 
 pub call_of : (b : ℕ) (ts : List ℤ) (n : ℕ) (before now : List ℕ)
-    → Done (drawn_told b ts (length before)) (rows_written b ts (length before)) (out.Rows n) before now → Call b ts n before now
+    → Done (drawn_told b ts (length before)) (rows_written b ts (length before)) (Ok n) before now → Call b ts n before now
 unfolding drawn_told
 call_of b ts n before now d =
     let (e, q) = reports (drawn b ts (length before)) (length (generated b ts)) n d.answers in
@@ -209,20 +207,20 @@ call_accepted b ts n before now k =
     ap₂ (checked b ts) k.count k.writes ∙ generated_accepted b ts k.admits (drop (length (flat (generated b ts))) before)
 
 -- a call with room for a full graph refuses only what is not admitted
-refuses : (a : Answer) (m : ℕ) (why : Refusal) → out.Refused why ≡ drawn_as a m → a ≡ Refused why
-refuses Accepted m why e = absurd (let z : ◌≡◌ {A = ℕ} 0 1 = cc in omega arith)
-refuses (Refused y) m why e = cc
+refuses : (a : Answer) (m : ℕ) (why : Refusal) → Err why ≡ told a m → a ≡ Err why
+refuses (Ok _) m why e = absurd (let z : ◌≡◌ {A = ℕ} 0 1 = cc in omega arith)
+refuses (Err y) m why e = cc
 
-pub call_refused : (b : ℕ) (ts : List ℤ) (room : ℕ) (why : Refusal) → row_length * most_rows ≤ room → out.Refused why ≡ drawn_told b ts room → admitted b ts ≡ Refused why
+pub call_refused : (b : ℕ) (ts : List ℤ) (room : ℕ) (why : Refusal) → row_length * most_rows ≤ room → Err why ≡ drawn_told b ts room → admitted b ts ≡ Err why
 unfolding drawn_told
 call_refused b ts room why h e = go (admitted b ts) refl
   where
-    told : drawn b ts room ≡ Refused why
+    told : drawn b ts room ≡ Err why
     told = refuses (drawn b ts room) (length (generated b ts)) why e
 
-    go : (a : Answer) → admitted b ts ≡ a → admitted b ts ≡ Refused why
-    go Accepted f = never_both why (sym (drawn_accepts b ts room f h) ∙ told)
-    go (Refused y) f =
-        let e : Refused y ≡ first_of (admit_order b ts ++ (buffer (row_length * most_rows) room ∷ [])) =
-        unfold admitted in (stops_at (admit_order b ts) (buffer (row_length * most_rows) room ∷ []) (Refused y) y (sym f) refl) in
+    go : (a : Answer) → admitted b ts ≡ a → admitted b ts ≡ Err why
+    go (Ok _) f = never_both why (sym (drawn_accepts b ts room f h) ∙ told)
+    go (Err y) f =
+        let e : Err y ≡ first_of (admit_order b ts ++ (buffer (row_length * most_rows) room ∷ [])) =
+        unfold admitted in (stops_at (admit_order b ts) (buffer (row_length * most_rows) room ∷ []) (Err y) y (sym f) refl) in
         f ∙ e ∙ sym (drawn_is b ts room) ∙ told

@@ -10,7 +10,6 @@ use native.Mathlib.Omega.{arith}
 use lib.Dec.{T}
 use lib.IntN.{ℤ}
 use lib.ListN.{length, length-append}
-use Rattle.meaning.specs.declared.Answer.TheVariants.{Accepted}
 use Rattle.meaning.specs.declared.Row.{Row}
 use Rattle.meaning.specs.Basics.{has, sum_of}
 use Rattle.meaning.specs.Limits.{limit}
@@ -18,7 +17,7 @@ use Rattle.meaning.specs.Constants.{wanted, Ascending}
 use Rattle.meaning.specs.Graph.{values, ready}
 use Rattle.meaning.specs.Digits.{cost, csd_sum}
 use Rattle.meaning.specs.Generator.{remaining, added, Draft, turn, turns, generated}
-use Rattle.meaning.specs.Refusals.{admitted}
+use Rattle.meaning.specs.Refusals.{Accepted, admitted}
 use Rattle.laws.proofs.Lists.Tests.{T_of}
 use Rattle.laws.proofs.Graph.Rows.{ready_append}
 use Rattle.laws.proofs.Refusals.Checked.{admitted_of}

@@ -10,7 +10,6 @@ use borrow.Author.Tests.{ne_eqb}
 use lib.Dec.{T, leb, leb→le}
 use lib.IntN.{ℤ}
 use lib.ListN.{length}
-use Rattle.meaning.specs.declared.Answer.TheVariants.{Accepted}
 use Rattle.meaning.specs.declared.Row.{Row}
 use Rattle.meaning.specs.Basics.{has, sum_of}
 use Rattle.meaning.specs.Limits.{limit}
@@ -18,7 +17,7 @@ use Rattle.meaning.specs.Constants.{odd_of, wanted}
 use Rattle.meaning.specs.Graph.{rows, values, Fits, Sound, is_served}
 use Rattle.meaning.specs.Digits.{canonic, nonzeros}
 use Rattle.meaning.specs.Generator.{row_for, remaining, rule_a, rule_b, added, turn, turns, generated}
-use Rattle.meaning.specs.Refusals.{checked}
+use Rattle.meaning.specs.Refusals.{Accepted, checked}
 use Rattle.meaning.specs.Distance.{does_reach, does_serve, Reached}
 use Rattle.laws.proofs.Lists.Tests.{either_of, of_both}
 use Rattle.laws.proofs.Graph.Rows.{length_rows}

@@ -9,8 +9,8 @@ use borrow.Author.Tests.{ltb-true, ltb-false}
 use lib.Dec.{T, ltb, leb→le, le→leb, eqb→eq}
 use lib.IntN.{ℤ, pos, negsuc, nat_abs, ◌-ℤ◌}
 use lib.Pow.{pow_pos}
-use Rattle.meaning.specs.declared.Operated.{Operated}
-use Rattle.meaning.specs.declared.Operated.TheVariants.{Made, Invalid}
+use Rattle.std.specs.Prelude.{Option, Some, None}
+use Rattle.meaning.specs.declared.Made.{Made}
 use Rattle.meaning.specs.Basics.{difference, zeros}
 use Rattle.meaning.specs.Operation.{whole, size, Outcome, Valid, outcome_tests, is_outcome, valid_tests, is_valid, operated}
 use Rattle.laws.proofs.Lists.Tests.{all_of, of_all, eqb_of_eq, true_of, T_of}
@@ -103,24 +103,28 @@ module _ (L u v l1 l2 s : ℕ) where
   abbrev is : Bool
   is = is_valid L u v l1 l2 s (zeros m) (m / 2 ^ zeros m)
 
-  abbrev made : Bool → Operated
-  made t = cond t (Made (whole u v l1 l2 s) (zeros m) (m / 2 ^ zeros m)) Invalid
+  abbrev by : ℕ → ℕ → Made
+  by r c = record { n = whole u v l1 l2 s; r = r; value = c }
 
-  pub operated_made : (r c : ℕ) → Valid L u v l1 l2 s r c → operated L u v l1 l2 s ≡ Made (whole u v l1 l2 s) r c
+  abbrev made : Bool → Option Made
+  made t = cond t (Some (by (zeros m) (m / 2 ^ zeros m))) None
+
+  pub operated_made : (r c : ℕ) → Valid L u v l1 l2 s r c → operated L u v l1 l2 s ≡ Some (by r c)
   unfolding operated
   operated_made r c k =
       let f : r ≡ zeros m = k.outcome.shift in
       let e : c ≡ m / 2 ^ zeros m = k.outcome.value ∙ ap (λ z. m / 2 ^ z) f in
       let t = test_of_valid L u v l1 l2 s _ _ (subst₂ (Valid L u v l1 l2 s) f e k) in
-      ap made (true_of is t) ∙ ap₂ (Made (whole u v l1 l2 s)) (sym f) (sym e)
+      ap made (true_of is t) ∙ ap₂ (λ r c. Some (by r c)) (sym f) (sym e)
 
-  pub operated_valid : (n : ℤ) (r c : ℕ) → operated L u v l1 l2 s ≡ Made n r c → Valid L u v l1 l2 s r c
+  pub operated_valid : (n : ℤ) (r c : ℕ) → operated L u v l1 l2 s ≡ Some (record { n = n; r = r; value = c }) → Valid L u v l1 l2 s r c
   unfolding operated
   operated_valid n r c e = go is refl e
     where
-      go : (t : Bool) → is ≡ t → made t ≡ Made n r c → Valid L u v l1 l2 s r c
+      go : (t : Bool) → is ≡ t → made t ≡ Some (record { n = n; r = r; value = c }) → Valid L u v l1 l2 s r c
       go true q f =
-          let a : zeros m ≡ r = cc in
-          let b : m / 2 ^ zeros m ≡ c = cc in
+          let g : by (zeros m) (m / 2 ^ zeros m) ≡ record { n = n; r = r; value = c } = cc in
+          let a = ap (λ (x : Made). x.r) g in
+          let b = ap (λ (x : Made). x.value) g in
           subst₂ (Valid L u v l1 l2 s) a b (valid_of_test L u v l1 l2 s (zeros m) (m / 2 ^ zeros m) (T_of q))
       go false q f = absurd (let z : ◌≡◌ {A = ℕ} 0 1 = cc in omega arith)

@@ -6,12 +6,11 @@ use native.Mathlib.Omega.{arith}
 use lib.Dec.{T, ltb, leb→le, le→leb, ltb→lt, lt→ltb}
 use lib.IntN.{ℤ}
 use lib.ListN.{length}
-use Rattle.meaning.specs.declared.Answer.TheVariants.{Accepted}
 use Rattle.meaning.specs.declared.Refusal.TheVariants as no
 use Rattle.meaning.specs.Limits.{between, bit_tests, limit, most_targets, width_tests}
 use Rattle.meaning.specs.Constants.{odd_of}
 use Rattle.meaning.specs.Graph.{RowsIn, row_tests, rows, values, Sound, is_served}
-use Rattle.meaning.specs.Refusals.{admit_order, check_order, admitted, checked, sized_order, sized}
+use Rattle.meaning.specs.Refusals.{Accepted, admit_order, check_order, admitted, checked, sized_order, sized}
 use Rattle.laws.proofs.Refusals.Stages.{first_accepts, all_accept, need_accepts, of_need}
 use Rattle.laws.proofs.Refusals.Members.{each_accepts, of_each, pass_in, in_pass}
 use Rattle.laws.proofs.Graph.Rows.{sound_of_pass, pass_of_sound}

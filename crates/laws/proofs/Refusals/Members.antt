@@ -1,6 +1,7 @@
 -- A stage that looks at each member, seen after those before it: it accepts exactly if every member passes, and refuses exactly at the first that does
 -- not; and as a loop meets it, the answer for all is the answer for what is left. Assumes nothing.
 use mathlib.Core.Path.{◌≡◌, refl, sym, ap, ◌∙◌, subst, subst⁻¹}
+use Rattle.std.specs.Prelude.{Err}
 use mathlib.Core.Bool.{Bool, true, false, cond}
 use mathlib.Core.List.Memᴰ
 use mathlib.Core.List.{List, [], ◌∷◌, ◌++◌, append_assoc, append-nil, Memᴰ}
@@ -11,10 +12,9 @@ use native.Mathlib.Omega.{arith}
 use lib.Dec.{T}
 use lib.ListN.{length, get_or, take, drop, length-append, drop_of_length-le}
 use lib.Seq.{drop-cons, take-suc, length-take-le}
-use Rattle.meaning.specs.declared.Answer.TheVariants.{Accepted, Refused}
 use Rattle.meaning.specs.declared.Refusal.{Refusal}
 use Rattle.meaning.specs.Basics.{NoneOf, First}
-use Rattle.meaning.specs.Refusals.{need_each}
+use Rattle.meaning.specs.Refusals.{Accepted, need_each}
 use Rattle.laws.proofs.Lists.Tests.{T_of, false_of}
 use Rattle.laws.proofs.Refusals.Stages.{never_both, refused_same, branch, of_branch}
 
@@ -65,13 +65,13 @@ record From {A : Type 0} (P : List A → A → Type 0) (done xs : List A) (p : �
 -- a test that fails exactly where P holds
 module _ {A : Type 0} (why : ℕ → Refusal) (test : List A → A → Bool) (P : List A → A → Type 0)
     (no : (b : List A) (x : A) → T (test b x) → ¬ (P b x)) (yes : (b : List A) (x : A) → test b x ≡ false → P b x) where
-  from_refused : (done xs : List A) (y : Refusal) → need_each why test done xs ≡ Refused y → (p : ℕ) × From P done xs p × (y ≡ why p)
+  from_refused : (done xs : List A) (y : Refusal) → need_each why test done xs ≡ Err y → (p : ℕ) × From P done xs p × (y ≡ why p)
   unfolding need_each NoneOf
   from_refused done [] y e = never_both y e
   from_refused done (x ∷ xs) y e = go (test done x) refl e (λ q. from_refused (done ++ (x ∷ [])) xs y q)
     where
-      go : (b : Bool) → test done x ≡ b → cond b (need_each why test (done ++ (x ∷ [])) xs) (Refused (why (length done + 1))) ≡ Refused y
-          → (need_each why test (done ++ (x ∷ [])) xs ≡ Refused y → (p : ℕ) × From P (done ++ (x ∷ [])) xs p × (y ≡ why p))
+      go : (b : Bool) → test done x ≡ b → cond b (need_each why test (done ++ (x ∷ [])) xs) (Err (why (length done + 1))) ≡ Err y
+          → (need_each why test (done ++ (x ∷ [])) xs ≡ Err y → (p : ℕ) × From P (done ++ (x ∷ [])) xs p × (y ≡ why p))
           → (p : ℕ) × From P done (x ∷ xs) p × (y ≡ why p)
       go true t e rest =
           let (p, f, q) = rest e in (
@@ -109,16 +109,16 @@ module _ {A : Type 0} (why : ℕ → Refusal) (test : List A → A → Bool) (P 
       go false e = absurd (n (yes b x e))
 
   refused_at : (done between : List A) (there : A) (behind : List A) → NoneOf P done between → P (done ++ between) there
-      → need_each why test done (between ++ (there ∷ behind)) ≡ Refused (why (length done + length between + 1))
+      → need_each why test done (between ++ (there ∷ behind)) ≡ Err (why (length done + length between + 1))
   unfolding need_each NoneOf
   refused_at done [] there behind n h =
-      rw (false_of (test done there) (λ t. no done there t (subst (λ l. P l there) (append-nil done) h))) (ap (λ k. Refused (why k)) (omega arith))
+      rw (false_of (test done there) (λ t. no done there t (subst (λ l. P l there) (append-nil done) h))) (ap (λ k. Err (why k)) (omega arith))
   refused_at done (x ∷ xs) there behind n h =
       rw (passed done x n.0)
       (refused_at (done ++ (x ∷ [])) xs there behind n.1 (subst⁻¹ (λ l. P l there) (append_assoc done (x ∷ []) xs) h)
-      ∙ ap (λ k. Refused (why k)) (omega (arith, length-append done (x ∷ []))))
+      ∙ ap (λ k. Err (why k)) (omega (arith, length-append done (x ∷ []))))
 
-  pub each_refuses : (xs : List A) (y : Refusal) → need_each why test [] xs ≡ Refused y → (p : ℕ) × First P xs p × (y ≡ why p)
+  pub each_refuses : (xs : List A) (y : Refusal) → need_each why test [] xs ≡ Err y → (p : ℕ) × First P xs p × (y ≡ why p)
   each_refuses xs y e =
       let (p, f, q) = from_refused [] xs y e in (
         p,
@@ -134,10 +134,10 @@ module _ {A : Type 0} (why : ℕ → Refusal) (test : List A → A → Bool) (P 
         q,
       )
 
-  pub refuses_each : (xs : List A) (p : ℕ) → First P xs p → need_each why test [] xs ≡ Refused (why p)
+  pub refuses_each : (xs : List A) (p : ℕ) → First P xs p → need_each why test [] xs ≡ Err (why p)
   refuses_each xs p f =
       ap (need_each why test []) f.split ∙ refused_at [] f.before f.there f.behind f.none_before f.holds
-      ∙ ap (λ k. Refused (why k)) (let e = f.place in omega arith)
+      ∙ ap (λ k. Err (why k)) (let e = f.place in omega arith)
 
 -- ---- as a loop over the list meets it
 
@@ -148,7 +148,7 @@ module _ {A : Type 0} (why : ℕ → Refusal) (test : List A → A → Bool) (d 
   each_miss i xs h e = rw (drop-cons xs i d h, e, add-one i, take-suc xs i d h)
 
   pub each_hit : (i : ℕ) (xs : List A) → i < length xs → test (take i xs) (get_or xs i d) ≡ false
-      → need_each why test (take i xs) (drop i xs) ≡ Refused (why (i + 1))
+      → need_each why test (take i xs) (drop i xs) ≡ Err (why (i + 1))
   unfolding need_each
   each_hit i xs h e = rw (drop-cons xs i d h, e, length-take-le i xs (omega arith))
 

@@ -1,6 +1,7 @@
 -- What a job that asks was made of; what is printed for a job, by what its text asks for; and the order of a job that is not malformed, as code meets
 -- it: the generator's refusals, then the input width. Assumes nothing.
 use mathlib.Core.Path.{◌≡◌, refl, sym, ap, ◌∙◌}
+use Rattle.std.specs.Prelude.{Err}
 use mathlib.Core.Bool.{Bool, true, false, cond}
 use mathlib.Core.List.{List, [], ◌∷◌}
 use Prim.Native.Nat.{ℕ, ◌+◌, ◌≤◌}
@@ -8,15 +9,13 @@ use native.Mathlib.Omega.{arith}
 use lib.Dec.{leb, le→leb}
 use lib.IntN.{ℤ, pos, negsuc}
 use lib.ListN.{length}
-use Rattle.meaning.specs.declared.Answer.{Answer}
-use Rattle.meaning.specs.declared.Answer.TheVariants.{Accepted, Refused}
 use Rattle.meaning.specs.declared.Refusal.{Refusal}
 use Rattle.meaning.specs.declared.Refusal.TheVariants as no
 use Rattle.meaning.specs.Forms.{Line, good, bad}
 use Rattle.meaning.specs.Limits.{most_rows}
 use Rattle.meaning.specs.Job.{Asked, Job, asks, malformed, next, job_of, natural, bits_of, input_of, rows_of, job_order}
 use Rattle.meaning.specs.Listing.{answer_of, or_refused, refused_line, reply_to, listing, job_text}
-use Rattle.meaning.specs.Refusals.{admit_order, admitted, few_rows, input_width, first_of}
+use Rattle.meaning.specs.Refusals.{Answer, Accepted, admit_order, admitted, few_rows, input_width, first_of}
 use Rattle.laws.proofs.Generator.Generated.{few_rows_lem}
 use Rattle.laws.proofs.Refusals.Stages.{stops_at, passes_on, of_need}
 
@@ -60,9 +59,9 @@ module _ (j : Asked) where
   abbrev late : List Answer
   late = few_rows (rows_of j) ∷ input_width (input_of j.head) ∷ []
 
-  pub job_stops : (why : Refusal) → admitted (bits_of j.head) j.targets ≡ Refused why → first_of (job_order j) ≡ Refused why
+  pub job_stops : (why : Refusal) → admitted (bits_of j.head) j.targets ≡ Err why → first_of (job_order j) ≡ Err why
   unfolding admitted
-  job_stops why e = sym (stops_at (admit_order (bits_of j.head) j.targets) late (Refused why) why (sym e) refl)
+  job_stops why e = sym (stops_at (admit_order (bits_of j.head) j.targets) late (Err why) why (sym e) refl)
 
   pub job_passes : admitted (bits_of j.head) j.targets ≡ Accepted → first_of (job_order j) ≡ first_of (input_width (input_of j.head) ∷ [])
   job_passes e =

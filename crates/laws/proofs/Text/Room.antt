@@ -1,5 +1,6 @@
 -- No text that is printed is longer than text_room: neither a listing nor the line of a refusal. Assumes nothing.
 use mathlib.Core.Path.{◌≡◌, refl, sym, ap, ◌∙◌, subst, subst⁻¹}
+use Rattle.std.specs.Prelude.{Ok, Err}
 use mathlib.Core.Bool.{Bool, false}
 use mathlib.Core.List.{List, [], ◌∷◌, ◌++◌}
 use Prim.Native.Nat.{ℕ, ◌^◌, ◌≤◌}
@@ -9,8 +10,6 @@ use lib.IntN.{ℤ, pos}
 use lib.ListN.{length, get_or, length-append}
 use mir.Syntax.{w32}
 use mir.Val.{SFits}
-use Rattle.meaning.specs.declared.Answer.{Answer}
-use Rattle.meaning.specs.declared.Answer.TheVariants.{Accepted, Refused}
 use Rattle.meaning.specs.declared.Head.{Head}
 use Rattle.meaning.specs.declared.Refusal.{Refusal}
 use Rattle.meaning.specs.declared.Refusal.TheVariants as no
@@ -20,7 +19,7 @@ use Rattle.meaning.specs.Graph.{flat}
 use Rattle.meaning.specs.Job.{Asked, Job, asks, malformed, job_of, bits_of, input_of, rows_of, job_order}
 use Rattle.meaning.specs.Limits.{bit_tests, between, most_targets, width_tests}
 use Rattle.meaning.specs.Listing.{graph_in, listing_of, listing, refused_line, or_refused, reply_to, job_text, text_room}
-use Rattle.meaning.specs.Refusals.{place_of, first_of, bit_limit, list_length, odd_parts, input_width, admitted}
+use Rattle.meaning.specs.Refusals.{Answer, Accepted, place_of, first_of, bit_limit, list_length, odd_parts, input_width, admitted}
 use Rattle.laws.proofs.Generator.Generated.{generated_accepted}
 use Rattle.laws.proofs.Graph.Rows.{rows_flat}
 use Rattle.laws.proofs.Refusals.Checked.{GoodWidth, good_of}
@@ -45,23 +44,23 @@ graph_room h ts n w good fit =
 -- ---- the line of a refusal
 
 -- no place is above the number of targets
-place_most : (b : ℕ) (ts : List ℤ) (why : Refusal) → admitted b ts ≡ Refused why → place_of why ≤ most_targets
+place_most : (b : ℕ) (ts : List ℤ) (why : Refusal) → admitted b ts ≡ Err why → place_of why ≤ most_targets
 unfolding admitted
 place_most b ts why e = go (bit_limit b) refl (list_length ts) refl (odd_parts b ts) refl e
   where
     none : (y : Refusal) → place_of y ≡ 0 → y ≡ why → place_of why ≤ most_targets
     none y h e = omega (arith, ap place_of e)
 
-    go : (p : Answer) → bit_limit b ≡ p → (q : Answer) → list_length ts ≡ q → (r : Answer) → odd_parts b ts ≡ r → first_of (p ∷ q ∷ r ∷ []) ≡ Refused why
+    go : (p : Answer) → bit_limit b ≡ p → (q : Answer) → list_length ts ≡ q → (r : Answer) → odd_parts b ts ≡ r → first_of (p ∷ q ∷ r ∷ []) ≡ Err why
         → place_of why ≤ most_targets
-    go (Refused y) f q g r h e = none no.Bits refl ((need_refuses no.Bits y (bit_tests b) f).1 ∙ refused_same y why e)
-    go Accepted f (Refused y) g r h e = none no.List refl ((need_refuses no.List y (between 1 most_targets (length ts)) g).1 ∙ refused_same y why e)
-    go Accepted f Accepted g (Refused y) h e =
+    go (Err y) f q g r h e = none no.Bits refl ((need_refuses no.Bits y (bit_tests b) f).1 ∙ refused_same y why e)
+    go (Ok _) f (Err y) g r h e = none no.List refl ((need_refuses no.List y (between 1 most_targets (length ts)) g).1 ∙ refused_same y why e)
+    go (Ok _) f (Ok _) g (Err y) h e =
         let test : List ℤ → ℤ → Bool = λ _ t. ltb (odd_of t) (2 ^ b) in
         let (p, first, q) = each_refuses no.OddPart test (λ l t. test l t ≡ false) (λ _ _ t k. subst T k t) (λ _ _ k. k) ts y h in
         let few = leb→le (length ts) most_targets (need_accepts no.List (between 1 most_targets (length ts)) g).1.0 in
         omega (arith, ap place_of (sym q ∙ refused_same y why e), first.place, ap length first.split, length-append first.before (first.there ∷ first.behind))
-    go Accepted f Accepted g Accepted h e = never_both why e
+    go (Ok _) f (Ok _) g (Ok _) h e = never_both why e
 
 refused_most : (why : Refusal) → place_of why ≤ most_targets → length (refused_line why) ≤ text_room
 refused_most why h = omega (arith, refused_room why (omega arith))
@@ -91,10 +90,10 @@ module _ (s : List ℕ) where
       by a f h = subst⁻¹ (λ (l : List ℕ). length l ≤ text_room) (reply_by j a f) h
 
       go : (a : Answer) → admitted (bits_of j.head) j.targets ≡ a → (w : Answer) → input_width (input_of j.head) ≡ w → length (reply_to j) ≤ text_room
-      go (Refused why) f w g = by (Refused why) (job_stops j why f) (refused_most why (place_most (bits_of j.head) j.targets why f))
-      go Accepted f Accepted g = by Accepted (job_passes j f ∙ last (input_width (input_of j.head)) ∙ g) (listed_room_lem j e f g)
-      go Accepted f (Refused why) g =
-          by (Refused why) (job_passes j f ∙ last (input_width (input_of j.head)) ∙ g)
+      go (Err why) f w g = by (Err why) (job_stops j why f) (refused_most why (place_most (bits_of j.head) j.targets why f))
+      go (Ok _) f (Ok _) g = by Accepted (job_passes j f ∙ last (input_width (input_of j.head)) ∙ g) (listed_room_lem j e f g)
+      go (Ok _) f (Err why) g =
+          by (Err why) (job_passes j f ∙ last (input_width (input_of j.head)) ∙ g)
           (refused_most why (omega (arith, ap place_of (need_refuses no.Width why (width_tests (input_of j.head)) g).1)))
 
   pub text_room_lem : length (job_text s) ≤ text_room
