@@ -1,5 +1,5 @@
 -- The listing of a job, line by line, and the whole of what is printed for a job's text. Assumes nothing.
-use Rattle.std.specs.Prelude.{Bool, cond, List, [], ◌∷◌, ◌++◌, map, ℕ, suc, ◌+◌, ◌-◌, ◌*◌, eqb, leb, ℤ, pos, nat_abs, ◌+ℤ◌, length, get_or, Result, Ok, Err}
+use Rattle.std.specs.Prelude.{Bool, cond, List, [], ◌∷◌, ◌++◌, map, ℕ, suc, ◌+◌, ◌-◌, ◌*◌, eqb, ℤ, pos, nat_abs, ◌+ℤ◌, length, get_or, Result, Ok, Err}
 use Rattle.meaning.specs.declared.Head.{Head}
 use Rattle.meaning.specs.declared.Refusal.{Refusal}
 use Rattle.meaning.specs.declared.Refusal.TheVariants as no
@@ -10,7 +10,7 @@ use Rattle.meaning.specs.Constants.{sign_of, shift_of, odd_of, wanted}
 use Rattle.meaning.specs.Digits.{csd_sum}
 use Rattle.meaning.specs.Graph.{words, row_at, rows, values, output_index}
 use Rattle.meaning.specs.Widths.{row_width, output_width, ranking}
-use Rattle.meaning.specs.Refusals.{Answer, number, place_of, first_of}
+use Rattle.meaning.specs.Refusals.{Answer, number, place_of, buffer, first_of, told, given}
 use Rattle.meaning.specs.Forms.{line_of, lines_of, bits_form, input_form, report_text, adders_form, csd_form, row_form, out_form, refused_form}
 use Rattle.meaning.specs.Job.{Asked, Job, asks, malformed, job_of, job_order, rows_of}
 
@@ -115,7 +115,7 @@ text_room = head_room + most_rows * row_line_room + most_targets * out_line_room
 
 -- the call: refusal 4 for a shorter buffer, before all others, and then nothing is written
 unfoldable pub printed_told : List ℕ → ℕ → Result ℕ Refusal
-printed_told s room = cond (leb text_room room) (Ok (length (job_text s))) (Err no.Buffer)
+printed_told s room = told (buffer text_room room) (length (job_text s))
 
 unfoldable pub text_written : List ℕ → ℕ → List ℕ
-text_written s room = cond (leb text_room room) (job_text s) []
+text_written s room = given (buffer text_room room) (job_text s)

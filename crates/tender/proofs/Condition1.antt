@@ -1,7 +1,7 @@
 -- Condition 1 holds. Assumes nothing.
 use mathlib.Core.Path.{◌≡◌, refl, sym, ap, ◌∙◌, subst}
-use Rattle.std.specs.Prelude.{Ok, Err}
-use mathlib.Core.Bool.{Bool, true, false, cond, ◌&&◌}
+use Rattle.std.specs.Prelude.{Result, Ok, Err}
+use mathlib.Core.Bool.{Bool, false}
 use mathlib.Core.List.{List, [], ◌∷◌, ◌++◌, Memᴰ}
 use mathlib.Core.Logic.{inl, inr, ⊎_elim, ◌↔◌}
 use Prim.Native.Nat.{ℕ, ◌+◌, ◌*◌, ◌%◌, ◌^◌, ◌≤◌, ◌<◌}
@@ -9,24 +9,20 @@ use native.Mathlib.Omega.{arith}
 use lib.Dec.{T, leb, ltb, eqb, leb→le, le→leb, ltb→lt, lt→ltb, eqb→eq}
 use lib.IntN.{ℤ}
 use lib.ListN.{length}
-use Rattle.meaning.specs.declared.Far.{Far}
-use Rattle.meaning.specs.declared.Far.TheVariants as far
 use Rattle.meaning.specs.declared.Refusal.{Refusal}
 use Rattle.meaning.specs.declared.Refusal.TheVariants as no
 use Rattle.meaning.specs.declared.Row.{Row}
-use Rattle.meaning.specs.Basics.{all, any, has, First, over}
+use Rattle.meaning.specs.Basics.{all, has, First, over}
 use Rattle.meaning.specs.Limits.{limit, most_rows}
 use Rattle.meaning.specs.Constants.{odd_of}
-use Rattle.meaning.specs.Distance.{distance, does_reach, does_serve, candidates}
 use Rattle.meaning.specs.Graph.{row_length, row_tests, rows, values, does_fit, is_served}
 use Rattle.meaning.specs.Generator.{generated}
-use Rattle.meaning.specs.Digits.{nonzeros, form_of}
-use Rattle.meaning.specs.Listing.{job_text, printed_told, text_written}
+use Rattle.meaning.specs.Listing.{printed_told, text_written}
 use Rattle.meaning.specs.Job.{Asked, bits_of, input_of, job_order}
-use Rattle.meaning.specs.Refusals.{Answer, Accepted, Done, need, need_each, odd_parts, number, place_of, given, told, told, told, first_of, admit_order, check_order, sized_order, products_order, widths_order, ranking_order, generate_order, distance_order, buffer, row_count, valid_rows, all_served, few_rows, input_width, ready_values, target, admitted, checked, sized, multiplied, products_written, measured, widths_written, ranked, ranking_written, drawn, drawn_told, rows_written, distance_told, apart_told, apart_written, canonic_told, canonic_written}
+use Rattle.meaning.specs.Refusals.{Answer, Accepted, Done, need, need_each, odd_parts, number, place_of, given, told, first_of, admit_order, check_order, sized_order, products_order, widths_order, ranking_order, generate_order, distance_order, buffer, row_count, valid_rows, all_served, few_rows, input_width, ready_values, target, admitted, checked, sized, multiplied, products_written, measured, widths_written, ranked, ranking_written, drawn, drawn_told, rows_written, distance_told, apart_told, apart_written, canonic_told, canonic_written}
 use Rattle.laws.proofs.Lists.Tests.{All, all_of, of_all, false_of, both_of, of_both, either_of, of_left, of_right, eqb_of_eq}
 use Rattle.laws.proofs.Lists.Has.{in_has, has_in}
-use Rattle.laws.proofs.Refusals.Stages.{never_both, refused_same, need_refuses, one_done, over_none}
+use Rattle.laws.proofs.Refusals.Stages.{told_refuses, never_both, need_refuses, one_done, over_none}
 use Rattle.laws.proofs.Refusals.Members.{each_refuses, refuses_each}
 use Rattle.tender.specs.Words.{ValidRow}
 use Rattle.tender.specs.Table.{Situation, FirstOf, line3, line4, line5, line6, line7, line8, line9, line10values, line11, job_lines, admit_table, check_table, width_table, generate_table, distance_table, IsRefusal, Refuses, RefusesLent}
@@ -37,7 +33,7 @@ use Rattle.tender.proofs.Rows.{row_of_test, test_of_row}
 
 -- a stage refuses exactly by its line
 abbrev Exactly : Answer → Situation → Type 0
-Exactly a L = (N P : ℕ) → IsRefusal Err a N P ↔ L N P
+Exactly a L = (N P : ℕ) → IsRefusal a N P ↔ L N P
 
 abbrev Told : List Answer → List Situation → Type 0
 Told [] [] = Unit {0}
@@ -55,7 +51,7 @@ told_last : (xs : List Answer) (Ls : List Situation) → Told xs Ls → (a : Ans
 told_last xs Ls t a L e = told_append xs (a ∷ []) Ls (L ∷ []) t (e, tt)
 
 -- an acceptance is no refusal
-accepts : (N P : ℕ) → ¬ (IsRefusal Err Accepted N P)
+accepts : (N P : ℕ) → ¬ (IsRefusal Accepted N P)
 accepts N P r = never_both r.0 r.1
 
 -- the first stage that refuses is the first line whose situation holds
@@ -198,48 +194,21 @@ job_told j =
 both_ways : {A B C : Type 0} → A ↔ B → B ↔ C → A ↔ C
 both_ways f g = (λ p. g.0 (f.0 p), λ r. f.1 (g.1 r))
 
--- a refusal is handed on as one of another shape, and nothing else is
-module _ {R : Type 0} (refused : Refusal → R) (r : R) (a : Answer) (same : (why : Refusal) → (r ≡ refused why) ↔ (a ≡ Err why)) where
-  handed : (N P : ℕ) → IsRefusal refused r N P ↔ IsRefusal Err a N P
-  handed N P = (
-    λ q. (q.0, (same q.0).0 q.1, q.2, q.3),
-    λ q. (q.0, (same q.0).1 q.1, q.2, q.3),
-  )
-
--- the generator's
-drawn_told_lem : (a : Answer) (n : ℕ) (why : Refusal) → (told a n ≡ Err why) ↔ (a ≡ Err why)
-drawn_told_lem (Ok _) n why = (λ e. absurd (let z : ◌≡◌ {A = ℕ} 0 1 = cc in omega arith), λ e. never_both why e)
-drawn_told_lem (Err y) n why = (λ e. cc, λ e. ap Err (refused_same y why e))
-
--- a form's
-formed_told : (a : Answer) (n : ℕ) (why : Refusal) → (told a n ≡ Err why) ↔ (a ≡ Err why)
-formed_told (Ok _) n why = (λ e. absurd (let z : ◌≡◌ {A = ℕ} 0 1 = cc in omega arith), λ e. never_both why e)
-formed_told (Err y) n why = (λ e. cc, λ e. ap Err (refused_same y why e))
-
--- the distance is never a refusal by itself
-far_told : (a : Answer) (d : Far) (why : Refusal) → ((y : Refusal) → ¬ (d ≡ Err y)) → (told a d ≡ Err why) ↔ (a ≡ Err why)
-far_told (Ok _) d why n = (λ e. absurd (n why e), λ e. never_both why e)
-far_told (Err y) d why n = (λ e. cc, λ e. ap Err (refused_same y why e))
-
-distance_answers : (L : ℕ) (vals : List ℕ) (c : ℕ) (y : Refusal) → ¬ (distance L vals c ≡ Err y)
-unfolding distance
-distance_answers L vals c y = go (has vals c) (does_reach L vals c) (any (does_serve L vals c) (1 ∷ candidates L))
-  where
-    go : (p q r : Bool) → ¬ (cond p far.Zero (cond q far.One (cond r far.Two far.Beyond)) ≡ Err y)
-    go true q r e = let z : ◌≡◌ {A = ℕ} 0 1 = cc in omega arith
-    go false true r e = let z : ◌≡◌ {A = ℕ} 0 1 = cc in omega arith
-    go false false true e = let z : ◌≡◌ {A = ℕ} 0 1 = cc in omega arith
-    go false false false e = let z : ◌≡◌ {A = ℕ} 0 1 = cc in omega arith
+-- what is told is a refusal exactly if the stages refuse
+told_refused : {A : Type 0} (a : Answer) (x : A) (why : Refusal) → (told a x ≡ Err why) ↔ (a ≡ Err why)
+told_refused a x why = (λ e. told_refuses a x why (sym e), λ e. ap (λ a. told a x) e)
 
 -- the stages' answer, given as r
 module _ (xs : List Answer) (Ls : List Situation) (t : Told xs Ls) where
-  by_stages : (r : Answer) → r ≡ first_of xs → (N P : ℕ) → IsRefusal Err r N P ↔ FirstOf Ls N P
+  by_stages : (r : Answer) → r ≡ first_of xs → (N P : ℕ) → IsRefusal r N P ↔ FirstOf Ls N P
   by_stages r e N P = both_ways (λ q. (q.0, sym e ∙ q.1, q.2, q.3), λ q. (q.0, e ∙ q.1, q.2, q.3)) (exactly xs Ls t N P)
 
-  by_handed : {R : Type 0} (refused : Refusal → R) (r d : R) → r ≡ d → ((why : Refusal) → (d ≡ refused why) ↔ (first_of xs ≡ Err why))
-      → (N P : ℕ) → IsRefusal refused r N P ↔ FirstOf Ls N P
-  by_handed refused r d e same N P =
-      both_ways (handed refused r (first_of xs) (λ why. (λ q. (same why).0 (sym e ∙ q), λ q. e ∙ (same why).1 q)) N P) (exactly xs Ls t N P)
+  by_told : {A : Type 0} (r : Result A Refusal) (x : A) → r ≡ told (first_of xs) x → (N P : ℕ) → IsRefusal r N P ↔ FirstOf Ls N P
+  by_told r x e N P =
+      both_ways (
+        λ q. (q.0, (told_refused (first_of xs) x q.0).0 (sym e ∙ q.1), q.2, q.3),
+        λ q. (q.0, e ∙ (told_refused (first_of xs) x q.0).1 q.1, q.2, q.3),
+      ) (exactly xs Ls t N P)
 
 -- ---- what is written on refusal
 
@@ -247,12 +216,15 @@ still : {A : Type 0} (a : Answer) (why : Refusal) (ws before after : List A) →
 still (Ok _) why ws before after e f = never_both why e
 still (Err y) why ws before after e f = f ∙ over_none before
 
+still_told : {A B : Type 0} (a : Answer) (x : B) (why : Refusal) (ws before after : List A) → Err why ≡ told a x → after ≡ over (given a ws) before → after ≡ before
+still_told a x why ws before after e f = still a why ws before after (told_refuses a x why e) f
+
 -- ---- the calls
 
 -- a call that answers a definition's value
-by_value : {R : Type 0} (refused : Refusal → R) (d : R) (Ls : List Situation) → ((r : R) → r ≡ d → (N P : ℕ) → IsRefusal refused r N P ↔ FirstOf Ls N P)
-    → Refuses refused (λ r. r ≡ d) Ls
-by_value refused d Ls e = record { answers = (d, refl); one_answer = λ r q a b. a ∙ sym b; exactly = e }
+by_value : {A : Type 0} (d : Result A Refusal) (Ls : List Situation) → ((r : Result A Refusal) → r ≡ d → (N P : ℕ) → IsRefusal r N P ↔ FirstOf Ls N P)
+    → Refuses (λ r. r ≡ d) Ls
+by_value d Ls e = record { answers = (d, refl); one_answer = λ r q a b. a ∙ sym b; exactly = e }
 
 -- a call that writes what a definition says: it has an answer, and no other
 module _ {R A : Type 0} (d : ℕ → R) (w : ℕ → List A) where
@@ -266,34 +238,31 @@ module _ {R A : Type 0} (d : ℕ → R) (w : ℕ → List A) where
   no_other r q before after later x y = one_done (d (length before)) (w (length before)) before r q after later x y
 
 module _ (b : ℕ) (ts : List ℤ) where
-  pub admit : Refuses Err (Admits b ts) (admit_table b ts)
+  pub admit : Refuses (Admits b ts) (admit_table b ts)
   unfolding admitted
-  admit = by_value Err _ (admit_table b ts) (by_stages (admit_order b ts) (admit_table b ts) (admit_told b ts))
+  admit = by_value _ (admit_table b ts) (by_stages (admit_order b ts) (admit_table b ts) (admit_told b ts))
 
-  pub generate : RefusesLent Err (Generates b ts) (generate_table b ts)
+  pub generate : RefusesLent (Generates b ts) (generate_table b ts)
   unfolding drawn_told drawn rows_written
   generate =
       record {
         answers = some_done (drawn_told b ts) (rows_written b ts);
         one_answer = no_other (drawn_told b ts) (rows_written b ts);
         exactly = λ r before after d.
-            by_handed (generate_order b ts (length before)) (generate_table b ts (length before)) (generate_told b ts (length before)) Err r _ d.answers
-            (drawn_told_lem (first_of (generate_order b ts (length before))) (length (generated b ts)));
-        quiet = λ why before after d.
-            still (first_of (generate_order b ts (length before))) why _ before after
-            ((drawn_told_lem (first_of (generate_order b ts (length before))) (length (generated b ts)) why).0 (sym d.answers)) d.writes;
+            by_told (generate_order b ts (length before)) (generate_table b ts (length before)) (generate_told b ts (length before)) r _ d.answers;
+        quiet = λ why before after d. still_told _ _ why _ before after d.answers d.writes;
       }
 
   module _ (n : ℕ) (w : List ℕ) where
-    pub check : Refuses Err (Checks b ts n w) (check_table b ts n w)
+    pub check : Refuses (Checks b ts n w) (check_table b ts n w)
     unfolding checked
-    check = by_value Err _ (check_table b ts n w) (by_stages (check_order b ts n w) (check_table b ts n w) (check_told b ts n w))
+    check = by_value _ (check_table b ts n w) (by_stages (check_order b ts n w) (check_table b ts n w) (check_told b ts n w))
 
-    pub check_width : (input : ℕ) → Refuses Err (ChecksWidth b ts n w input) (width_table b ts n w input)
+    pub check_width : (input : ℕ) → Refuses (ChecksWidth b ts n w input) (width_table b ts n w input)
     unfolding sized
-    check_width input = by_value Err _ (width_table b ts n w input) (by_stages (sized_order b ts n w input) (width_table b ts n w input) (width_told b ts n w input))
+    check_width input = by_value _ (width_table b ts n w input) (by_stages (sized_order b ts n w input) (width_table b ts n w input) (width_told b ts n w input))
 
-    pub multiply : (x : ℤ) → RefusesLent Err (Multiplies b ts n w x) (λ room. check_table b ts n w ++ (line4 (length ts) room ∷ []))
+    pub multiply : (x : ℤ) → RefusesLent (Multiplies b ts n w x) (λ room. check_table b ts n w ++ (line4 (length ts) room ∷ []))
     unfolding multiplied products_written
     multiply x =
         record {
@@ -306,7 +275,7 @@ module _ (b : ℕ) (ts : List ℤ) where
           quiet = λ why before after d. still _ why _ before after (sym d.answers) d.writes;
         }
 
-    pub measure : (input : ℕ) → RefusesLent Err (Measures b ts n w input) (λ room. width_table b ts n w input ++ (line4 (n + length ts) room ∷ []))
+    pub measure : (input : ℕ) → RefusesLent (Measures b ts n w input) (λ room. width_table b ts n w input ++ (line4 (n + length ts) room ∷ []))
     unfolding measured widths_written
     measure input =
         record {
@@ -319,7 +288,7 @@ module _ (b : ℕ) (ts : List ℤ) where
           quiet = λ why before after d. still _ why _ before after (sym d.answers) d.writes;
         }
 
-    pub rank : (input : ℕ) → RefusesLent Err (Ranks b ts n w input) (λ room. width_table b ts n w input ++ (line4 n room ∷ []))
+    pub rank : (input : ℕ) → RefusesLent (Ranks b ts n w input) (λ room. width_table b ts n w input ++ (line4 n room ∷ []))
     unfolding ranked ranking_written
     rank input =
         record {
@@ -332,12 +301,11 @@ module _ (b : ℕ) (ts : List ℤ) where
           quiet = λ why before after d. still _ why _ before after (sym d.answers) d.writes;
         }
 
-pub distance_refuses : (b : ℕ) (vals : List ℕ) (c : ℕ) → Refuses Err (Distances b vals c) (distance_table b vals c)
+pub distance_refuses : (b : ℕ) (vals : List ℕ) (c : ℕ) → Refuses (Distances b vals c) (distance_table b vals c)
 unfolding distance_told
 distance_refuses b vals c =
-    by_value Err _ (distance_table b vals c) (λ r e.
-    by_handed (distance_order b vals c) (distance_table b vals c) (distance_stages b vals c) Err r _ e
-    (λ why. far_told (first_of (distance_order b vals c)) (distance (limit b) vals c) why (distance_answers (limit b) vals c)))
+    by_value _ (distance_table b vals c) (λ r e.
+    by_told (distance_order b vals c) (distance_table b vals c) (distance_stages b vals c) r _ e)
 
 -- a buffer alone
 module _ (needed room : ℕ) where
@@ -345,49 +313,39 @@ module _ (needed room : ℕ) where
   only (Ok _) = refl
   only (Err y) = refl
 
-  by_room : {R : Type 0} (refused : Refusal → R) (r d : R) → r ≡ d → ((why : Refusal) → (d ≡ refused why) ↔ (buffer needed room ≡ Err why))
-      → (N P : ℕ) → IsRefusal refused r N P ↔ FirstOf (line4 needed room ∷ []) N P
-  by_room refused r d e same =
-      by_handed (buffer needed room ∷ []) (line4 needed room ∷ []) (above no.Buffer needed room, tt) refused r d e
-      (λ why. (λ q. only (buffer needed room) ∙ (same why).0 q, λ q. (same why).1 (sym (only (buffer needed room)) ∙ q)))
+  by_room : (r : Answer) → r ≡ buffer needed room → (N P : ℕ) → IsRefusal r N P ↔ FirstOf (line4 needed room ∷ []) N P
+  by_room r e = by_stages (buffer needed room ∷ []) (line4 needed room ∷ []) (above no.Buffer needed room, tt) r (e ∙ sym (only (buffer needed room)))
 
-pub apart : (t : ℤ) → RefusesLent Err (TakesApart t) (λ room. line4 3 room ∷ [])
+  by_room_told : {A : Type 0} (r : Result A Refusal) (x : A) → r ≡ told (buffer needed room) x → (N P : ℕ) → IsRefusal r N P ↔ FirstOf (line4 needed room ∷ []) N P
+  by_room_told r x e =
+      by_told (buffer needed room ∷ []) (line4 needed room ∷ []) (above no.Buffer needed room, tt) r x (e ∙ ap (λ a. told a x) (sym (only (buffer needed room))))
+
+pub apart : (t : ℤ) → RefusesLent (TakesApart t) (λ room. line4 3 room ∷ [])
 unfolding apart_told apart_written
 apart t =
     record {
       answers = some_done apart_told (apart_written t);
       one_answer = no_other apart_told (apart_written t);
-      exactly = λ r before after d. by_room 3 (length before) Err r (buffer 3 (length before)) d.answers (λ why. (λ q. q, λ q. q));
+      exactly = λ r before after d. by_room 3 (length before) r d.answers;
       quiet = λ why before after d. still _ why _ before after (sym d.answers) d.writes;
     }
 
-pub canonic : (t : ℤ) → RefusesLent Err (WritesForm t) (λ room. line4 2 room ∷ [])
+pub canonic : (t : ℤ) → RefusesLent (WritesForm t) (λ room. line4 2 room ∷ [])
 unfolding canonic_told canonic_written
 canonic t =
     record {
       answers = some_done (canonic_told t) (canonic_written t);
       one_answer = no_other (canonic_told t) (canonic_written t);
-      exactly = λ r before after d. by_room 2 (length before) Err r _ d.answers (formed_told (buffer 2 (length before)) (nonzeros (form_of t)));
-      quiet = λ why before after d.
-          still (buffer 2 (length before)) why _ before after ((formed_told (buffer 2 (length before)) (nonzeros (form_of t)) why).0 (sym d.answers)) d.writes;
+      exactly = λ r before after d. by_room_told 2 (length before) r _ d.answers;
+      quiet = λ why before after d. still_told _ _ why _ before after d.answers d.writes;
     }
 
-pub print : (s : List ℕ) → RefusesLent Err (Prints s) (λ room. line4 8769 room ∷ [])
+pub print : (s : List ℕ) → RefusesLent (Prints s) (λ room. line4 8769 room ∷ [])
 unfolding printed_told text_written
 print s =
     record {
       answers = some_done (printed_told s) (text_written s);
       one_answer = no_other (printed_told s) (text_written s);
-      exactly = λ r before after d. by_room 8769 (length before) Err r _ d.answers (λ why. printed_told_lem (leb 8769 (length before)) why);
-      quiet = λ why before after d. quiet_of (leb 8769 (length before)) why before after d.answers d.writes;
+      exactly = λ r before after d. by_room_told 8769 (length before) r _ d.answers;
+      quiet = λ why before after d. still_told _ _ why _ before after d.answers d.writes;
     }
-  where
-    printed_told_lem : (b : Bool) (why : Refusal)
-        → (cond b (Ok (length (job_text s))) (Err no.Buffer) ≡ Err why) ↔ (cond (b && true) Accepted (Err no.Buffer) ≡ Err why)
-    printed_told_lem true why = (λ e. absurd (let z : ◌≡◌ {A = ℕ} 0 1 = cc in omega arith), λ e. never_both why e)
-    printed_told_lem false why = (λ e. cc, λ e. ap Err (refused_same no.Buffer why e))
-
-    quiet_of : (b : Bool) (why : Refusal) (before after : List ℕ) → Err why ≡ cond b (Ok (length (job_text s))) (Err no.Buffer)
-        → after ≡ over (cond b (job_text s) []) before → after ≡ before
-    quiet_of true why before after e f = absurd (let z : ◌≡◌ {A = ℕ} 0 1 = cc in omega arith)
-    quiet_of false why before after e f = f ∙ over_none before

@@ -11,8 +11,8 @@ use lib.ListN.{length, get_or, drop, length-append, length-map, length-drop, get
 use lib.Seq.{drop-append_seam, get_or-append-add}
 use Rattle.meaning.specs.declared.Refusal.TheVariants as no
 use Rattle.meaning.specs.declared.Row.{Row}
-use Rattle.meaning.specs.declared.Operated.{Operated}
-use Rattle.meaning.specs.declared.Operated.TheVariants.{Made, Invalid}
+use Rattle.std.specs.Prelude.{Option, Some, None}
+use Rattle.meaning.specs.declared.Made.{Made}
 use Rattle.meaning.specs.Basics.{all, has, up_from, over}
 use Rattle.meaning.specs.Limits.{bit_tests, limit}
 use Rattle.meaning.specs.Operation.{whole, operated, operated_under}
@@ -85,25 +85,31 @@ whole_is : (u v l1 l2 s : ℕ) → whole_of u v l1 l2 s ≡ whole u v l1 l2 s
 whole_is u v l1 l2 zero = refl
 whole_is u v l1 l2 (suc s) = refl
 
-operation : (b u v l1 l2 s : ℕ) (a : Operated) → Operates b u v l1 l2 s a → (n : ℤ) (r c : ℕ)
-    → (a ≡ Made n r c) ↔ ((2 ≤ b) × (b ≤ 16) × (n ≡ whole_of u v l1 l2 s) × AOperation b u v l1 l2 s r c)
+some_same : {A : Type 0} (x y : A) → Some x ≡ Some y → x ≡ y
+some_same x y e = cc
+
+abbrev made : ℤ → ℕ → ℕ → Option Made
+made n r c = Some (record { n = n; r = r; value = c })
+
+operation : (b u v l1 l2 s : ℕ) (a : Option Made) → Operates b u v l1 l2 s a → (n : ℤ) (r c : ℕ)
+    → (a ≡ Some (record { n = n; r = r; value = c })) ↔ ((2 ≤ b) × (b ≤ 16) × (n ≡ whole_of u v l1 l2 s) × AOperation b u v l1 l2 s r c)
 unfolding operated_under
 operation b u v l1 l2 s a d n r c = (λ e. there (all (bit_tests b)) refl (sym d ∙ e), λ p. d ∙ back p)
   where
-    there : (t : Bool) → all (bit_tests b) ≡ t → cond t (operated (limit b) u v l1 l2 s) Invalid ≡ Made n r c
+    there : (t : Bool) → all (bit_tests b) ≡ t → cond t (operated (limit b) u v l1 l2 s) None ≡ made n r c
         → (2 ≤ b) × (b ≤ 16) × (n ≡ whole_of u v l1 l2 s) × AOperation b u v l1 l2 s r c
     there true t e =
         let k = operated_valid (limit b) u v l1 l2 s n r c e in
         let p = all_of (bit_tests b) (T_of t) in
-        let same : Made n r c ≡ Made (whole u v l1 l2 s) r c = sym e ∙ operated_made (limit b) u v l1 l2 s r c k in
-        let m : n ≡ whole u v l1 l2 s = cc in
+        let same : ◌≡◌ {A = Made} (record { n = n; r = r; value = c }) (record { n = whole u v l1 l2 s; r = r; value = c }) = some_same _ _ (sym e ∙ operated_made (limit b) u v l1 l2 s r c k) in
+        let m = ap (λ (x : Made). x.n) same in
         (leb→le _ _ p.0, leb→le _ _ p.1.0, m ∙ sym (whole_is u v l1 l2 s), operation_of b u v l1 l2 s r c k)
     there false t e = absurd (let z : ◌≡◌ {A = ℕ} 0 1 = cc in omega arith)
 
-    back : (2 ≤ b) × (b ≤ 16) × (n ≡ whole_of u v l1 l2 s) × AOperation b u v l1 l2 s r c → cond (all (bit_tests b)) (operated (limit b) u v l1 l2 s) Invalid ≡ Made n r c
+    back : (2 ≤ b) × (b ≤ 16) × (n ≡ whole_of u v l1 l2 s) × AOperation b u v l1 l2 s r c → cond (all (bit_tests b)) (operated (limit b) u v l1 l2 s) None ≡ made n r c
     back p =
         rw (true_of (all (bit_tests b)) (of_all (bit_tests b) (le→leb _ _ p.0, (le→leb _ _ p.1, tt))))
-        (operated_made (limit b) u v l1 l2 s r c (valid_of b u v l1 l2 s r c p.3) ∙ ap (λ m. Made m r c) (sym (p.2 ∙ whole_is u v l1 l2 s)))
+        (operated_made (limit b) u v l1 l2 s r c (valid_of b u v l1 l2 s r c p.3) ∙ ap (λ m. made m r c) (sym (p.2 ∙ whole_is u v l1 l2 s)))
 
 -- ---- products
 

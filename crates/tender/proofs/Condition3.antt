@@ -8,6 +8,7 @@ use native.Mathlib.Omega.{arith}
 use lib.IntN.{ℤ, nat_abs}
 use lib.ListN.{length, drop}
 use Rattle.meaning.specs.declared.Far.{Far}
+use Rattle.meaning.specs.declared.Refusal.{Refusal}
 use Rattle.meaning.specs.Basics.{over, sum_of}
 use Rattle.meaning.specs.Limits.{limit}
 use Rattle.meaning.specs.Constants.{wanted, Ascending}
@@ -72,15 +73,18 @@ kept b ts n before after d =
 
 module _ (b : ℕ) (vals : List ℕ) (c : ℕ) where
   -- an answer that is no refusal is the distance
-  answer : (r : Far) → Distances b vals c r → NotRefused r → r ≡ distance (limit b) vals c
+  answer : (r : Result Far Refusal) → Distances b vals c r → NotRefused r → r ≡ Ok (distance (limit b) vals c)
   answer r d n = go (first_of (distance_order b vals c)) refl
     where
-      go : (a : Answer) → first_of (distance_order b vals c) ≡ a → r ≡ distance (limit b) vals c
+      go : (a : Answer) → first_of (distance_order b vals c) ≡ a → r ≡ Ok (distance (limit b) vals c)
       go (Ok _) e = d ∙ distance_told_lem b vals c e
       go (Err why) e = absurd (n why (d ∙ distance_refused b vals c why e))
 
-  told : (r d : Far) (P Q : Type 0) → Distances b vals c r → NotRefused r → (distance (limit b) vals c ≡ d) ↔ P → (P → Q) → (Q → P) → (r ≡ d) ↔ Q
-  told r d P Q e n q f g = let a = answer r e n in (λ h. f (q.0 (sym a ∙ h)), λ p. a ∙ q.1 (g p))
+  told_as : (r : Result Far Refusal) (d : Far) (P Q : Type 0) → Distances b vals c r → NotRefused r → (distance (limit b) vals c ≡ d) ↔ P → (P → Q) → (Q → P) → (r ≡ Ok d) ↔ Q
+  told_as r d P Q e n q f g = let a = answer r e n in (λ h. f (q.0 (same (sym a ∙ h))), λ p. a ∙ ap Ok (q.1 (g p)))
+    where
+      same : {x y : Far} → ◌≡◌ {A = Result Far Refusal} (Ok x) (Ok y) → x ≡ y
+      same e = cc
 
 pub condition3 : Condition3
 condition3 =
@@ -99,15 +103,15 @@ condition3 =
       canonic_only = canonic_only;
       fewest = λ b ts c n before after d e h m w g.
           omega (arith, fewest b ts c m w e (omega (arith, count_is (canonic c))) (sym g), (call_of b ts n before after d).count);
-      zero = λ b vals c r d n. told b vals c r _ _ _ d n (distance_zero (limit b) vals c) (λ p. p) (λ p. p);
+      zero = λ b vals c r d n. told_as b vals c r _ _ _ d n (distance_zero (limit b) vals c) (λ p. p) (λ p. p);
       one = λ b vals c r d n.
-          told b vals c r _ _ _ d n (distance_one (limit b) vals c) (λ p. (p.0, one_of b vals c p.1)) (λ p. (p.0, of_one b vals c p.1));
+          told_as b vals c r _ _ _ d n (distance_one (limit b) vals c) (λ p. (p.0, one_of b vals c p.1)) (λ p. (p.0, of_one b vals c p.1));
       two = λ b vals c r d n.
-          told b vals c r _ _ _ d n (distance_two (limit b) vals c)
+          told_as b vals c r _ _ _ d n (distance_two (limit b) vals c)
           (λ p. (p.0, (λ o. p.1 (of_one b vals c o)), two_of b vals c p.2)) (λ p. (p.0, (λ o. p.1 (one_of b vals c o)), of_two b vals c p.2));
       beyond = λ b vals c r d n.
-          told b vals c r _ _ _ d n (distance_beyond (limit b) vals c)
+          told_as b vals c r _ _ _ d n (distance_beyond (limit b) vals c)
           (λ p. (p.0, (λ o. p.1 (of_one b vals c o)), (λ o. p.2 (of_two b vals c o)))) (λ p. (p.0, (λ o. p.1 (one_of b vals c o)), (λ o. p.2 (two_of b vals c o))));
       same_values = λ b xs ys c r q d e n m s.
-          answer b xs c r d n ∙ distance_same (limit b) xs ys c (λ a i. (s a).0 i) (λ a i. (s a).1 i) ∙ sym (answer b ys c q e m);
+          answer b xs c r d n ∙ ap Ok (distance_same (limit b) xs ys c (λ a i. (s a).0 i) (λ a i. (s a).1 i)) ∙ sym (answer b ys c q e m);
     }

@@ -1,6 +1,6 @@
 -- What the two calls on one constant write. Assumes nothing.
 use mathlib.Core.Path.{◌≡◌, refl, sym, ap, ◌∙◌, subst₂}
-use Rattle.std.specs.Prelude.{Ok, Err}
+use Rattle.std.specs.Prelude.{Ok}
 use mathlib.Core.List.{List, [], ◌∷◌, ◌++◌}
 use mathlib.Core.Logic.{inl, inr}
 use Prim.Native.Nat.{ℕ, zero, suc, ◌+◌, ◌≤◌}
@@ -10,7 +10,8 @@ use lib.ListN.{length, get_or, drop}
 use Rattle.meaning.specs.Basics.{over, zeros_in, zeros}
 use Rattle.meaning.specs.Constants.{sign_of, shift_of, odd_of, apart, part_words}
 use Rattle.meaning.specs.Digits.{Digit, minus, none, plus, is_nonzero, nonzeros, Sparse, canonic, form_of, plus_places, minus_places, form_words}
-use Rattle.meaning.specs.Refusals.{Answer, Accepted, buffer, given, told, apart_told, apart_written, canonic_told, canonic_written}
+use Rattle.laws.proofs.Refusals.Stages.{told_accepts}
+use Rattle.meaning.specs.Refusals.{Accepted, buffer, given, apart_told, apart_written, canonic_told, canonic_written}
 use Rattle.meaning.specs.Calls.{TakesApart, WritesForm}
 use Rattle.laws.proofs.Constants.Apart.{apart_whole, apart_proper}
 use Rattle.laws.proofs.Digits.Places.{bits_apart, opposite_nonzeros, form_back, form_sparse}
@@ -67,15 +68,11 @@ form_of_lem t n e =
       count = e ∙ count_of t;
     }
 
-told : (a : Answer) (m n : ℕ) → Ok n ≡ told a m → (a ≡ Accepted) × (n ≡ m)
-told (Ok _) m n e = (refl, cc)
-told (Err why) m n e = absurd (let z : ◌≡◌ {A = ℕ} 0 1 = cc in omega arith)
-
 form_written : (t : ℤ) (n : ℕ) (before after : List ℕ) → WritesForm t (Ok n) before after
     → (p : ℕ) × (m : ℕ) × FormOf t n p m × Written (p ∷ m ∷ []) before after
 unfolding canonic_told canonic_written over
 form_written t n before after d =
-    let (a, e) = told (buffer 2 (length before)) (nonzeros (form_of t)) n d.answers in (
+    let (a, e) = told_accepts (buffer 2 (length before)) (nonzeros (form_of t)) n d.answers in (
       plus_places (form_of t),
       minus_places (form_of t),
       form_of_lem t n e,

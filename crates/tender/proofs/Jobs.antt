@@ -1,20 +1,17 @@
 -- What is printed for a job's text: the line of its refusal exactly if it is refused, and else its listing. Assumes nothing.
 use mathlib.Core.Path.{◌≡◌, refl, sym, ap, ap₂, ◌∙◌}
 use Rattle.std.specs.Prelude.{Ok, Err}
-use mathlib.Core.Bool.{Bool, true, false, cond}
-use mathlib.Core.List.{List, [], ◌++◌}
+use mathlib.Core.List.{List, ◌++◌}
 use mathlib.Core.Logic.{◌⊎◌, inl, inr}
 use Prim.Native.Nat.{ℕ, ◌≤◌}
 use native.Mathlib.Omega.{arith}
-use lib.Dec.{leb}
 use lib.ListN.{length, drop}
-use Rattle.meaning.specs.declared.Refusal.TheVariants as no
 use Rattle.meaning.specs.Basics.{over}
 use Rattle.meaning.specs.Job.{Asked, Job, asks, malformed, job_of, job_order}
 use Rattle.meaning.specs.Listing.{job_text, printed_told, text_written}
-use Rattle.meaning.specs.Refusals.{Answer, Accepted, number, place_of, first_of}
+use Rattle.meaning.specs.Refusals.{Answer, Accepted, buffer, given, number, place_of, first_of}
 use Rattle.meaning.specs.Calls.{Prints}
-use Rattle.laws.proofs.Refusals.Stages.{never_both}
+use Rattle.laws.proofs.Refusals.Stages.{never_both, told_accepts}
 use Rattle.tender.specs.Words.{Written}
 use Rattle.tender.specs.Grammar.{AsksFor}
 use Rattle.tender.specs.Table.{job_lines, JobRefused, refused_line}
@@ -27,12 +24,9 @@ module _ (s : List ℕ) (k : ℕ) (before after : List ℕ) (d : Prints s (Ok k)
   -- a text that is printed is the whole of it
   pub whole : (k ≡ length (job_text s)) × Written (job_text s) before after
   unfolding printed_told text_written over
-  whole = go (leb 8769 (length before)) d.answers d.writes
-    where
-      go : (b : Bool) → Ok k ≡ cond b (Ok (length (job_text s))) (Err no.Buffer)
-          → after ≡ cond b (job_text s) [] ++ drop (length (cond b (job_text s) [])) before → (k ≡ length (job_text s)) × Written (job_text s) before after
-      go true e f = (cc, f)
-      go false e f = absurd (let z : ◌≡◌ {A = ℕ} 0 1 = cc in omega arith)
+  whole =
+      let (a, e) = told_accepts (buffer 8769 (length before)) (length (job_text s)) k d.answers in
+      (e, d.writes ∙ ap (λ x. given x (job_text s) ++ drop (length (given x (job_text s))) before) a)
 
   -- in other words
   pub whole_as : (text : List ℕ) → job_text s ≡ text → (k ≡ length text) × Written text before after

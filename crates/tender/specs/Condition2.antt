@@ -1,9 +1,8 @@
 -- Condition 2: which graphs are accepted, and what an accepted graph gives. Assumes nothing.
-use Rattle.std.specs.Prelude.{◌≡◌, ◌↔◌, ℕ, suc, ◌+◌, ◌-◌, ◌*◌, ◌^◌, ◌≤◌, ◌<◌, ℤ, pos, negsuc, nat_abs, ◌*ℤ◌, length, get_or, drop}
+use Rattle.std.specs.Prelude.{◌≡◌, ◌↔◌, ℕ, suc, ◌+◌, ◌-◌, ◌*◌, ◌^◌, ◌≤◌, ◌<◌, ℤ, pos, negsuc, nat_abs, ◌*ℤ◌, length, get_or, drop, Option, Some}
 use Rattle.meaning.specs.Refusals.{Answer, Accepted}
 use mathlib.Core.List.{List, map, Permᴰ}
-use Rattle.meaning.specs.declared.Operated.{Operated}
-use Rattle.meaning.specs.declared.Operated.TheVariants.{Made}
+use Rattle.meaning.specs.declared.Made.{Made}
 use Rattle.meaning.specs.Basics.{up_from}
 use Rattle.meaning.specs.Constants.{sign_of, odd_of}
 use Rattle.meaning.specs.Graph.{rows}
@@ -18,8 +17,8 @@ pub record Condition2 : Type 0 where
   -- its rows are those of the slice
   pub rows_are : (n : ℕ) (w : List ℕ) → rows n w ≡ map (row_in w) (up_from 0 n)
   -- `operate` makes n, r and the value of a valid operation, under a bit limit in 2..16
-  pub operation : (b u v l1 l2 s : ℕ) (a : Operated) → Operates b u v l1 l2 s a → (n : ℤ) (r c : ℕ)
-      → (a ≡ Made n r c) ↔ ((2 ≤ b) × (b ≤ 16) × (n ≡ whole_of u v l1 l2 s) × AOperation b u v l1 l2 s r c)
+  pub operation : (b u v l1 l2 s : ℕ) (a : Option Made) → Operates b u v l1 l2 s a → (n : ℤ) (r c : ℕ)
+      → (a ≡ Some (record { n = n; r = r; value = c })) ↔ ((2 ≤ b) × (b ≤ 16) × (n ≡ whole_of u v l1 l2 s) × AOperation b u v l1 l2 s r c)
   -- an accepted graph gives t times x for every listed t
   pub gives_products : (b : ℕ) (ts : List ℤ) (n : ℕ) (w : List ℕ) (x : ℤ) (before after : List ℤ) → Multiplies b ts n w x Accepted before after
       → Written (map (λ t. t *ℤ x) ts) before after

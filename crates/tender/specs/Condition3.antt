@@ -1,10 +1,10 @@
 -- Condition 3: the generator's graphs, and the distance test. Assumes nothing.
-use Rattle.std.specs.Prelude.{◌≡◌, ◌↔◌, ℕ, ◌*◌, ◌≤◌, ℤ, length, drop}
-use Rattle.std.specs.Prelude.{Result, Ok}
-use Rattle.meaning.specs.Refusals.{Accepted}
+use Rattle.std.specs.Prelude.{◌≡◌, ◌↔◌, ℕ, ◌*◌, ◌≤◌, ℤ, length, drop, Result, Ok}
 use mathlib.Core.List.{List, [], ◌∷◌, Memᴰ}
 use Rattle.meaning.specs.declared.Far.{Far}
 use Rattle.meaning.specs.declared.Far.TheVariants as far
+use Rattle.meaning.specs.declared.Refusal.{Refusal}
+use Rattle.meaning.specs.Refusals.{Accepted}
 use Rattle.meaning.specs.Constants.{wanted}
 use Rattle.meaning.specs.Digits.{Digit, Canonic, canonic}
 use Rattle.meaning.specs.Graph.{rows}
@@ -34,12 +34,12 @@ pub record Condition3 : Type 0 where
   pub fewest : (b : ℕ) (ts : List ℤ) (c n : ℕ) (before after : List ℕ) → Generates b ts (Ok n) before after → wanted ts ≡ c ∷ []
       → nonzero_digits (canonic c) ≤ 4 → (m : ℕ) (w : List ℕ) → Checks b ts m w Accepted → n ≤ m
   -- a constant is reported at 0, 1 or 2, or beyond, exactly if it is one of the values, or one or two bounded operations reach it from them
-  pub zero : (b : ℕ) (vals : List ℕ) (c : ℕ) (r : Far) → Distances b vals c r → NotRefused r → (r ≡ far.Zero) ↔ Memᴰ c vals
-  pub one : (b : ℕ) (vals : List ℕ) (c : ℕ) (r : Far) → Distances b vals c r → NotRefused r → (r ≡ far.One) ↔ ((¬ Memᴰ c vals) × ByOne b vals c)
-  pub two : (b : ℕ) (vals : List ℕ) (c : ℕ) (r : Far) → Distances b vals c r → NotRefused r
-      → (r ≡ far.Two) ↔ ((¬ Memᴰ c vals) × (¬ ByOne b vals c) × ByTwo b vals c)
-  pub beyond : (b : ℕ) (vals : List ℕ) (c : ℕ) (r : Far) → Distances b vals c r → NotRefused r
-      → (r ≡ far.Beyond) ↔ ((¬ Memᴰ c vals) × (¬ ByOne b vals c) × (¬ ByTwo b vals c))
+  pub zero : (b : ℕ) (vals : List ℕ) (c : ℕ) (r : Result Far Refusal) → Distances b vals c r → NotRefused r → (r ≡ Ok far.Zero) ↔ Memᴰ c vals
+  pub one : (b : ℕ) (vals : List ℕ) (c : ℕ) (r : Result Far Refusal) → Distances b vals c r → NotRefused r → (r ≡ Ok far.One) ↔ ((¬ Memᴰ c vals) × ByOne b vals c)
+  pub two : (b : ℕ) (vals : List ℕ) (c : ℕ) (r : Result Far Refusal) → Distances b vals c r → NotRefused r
+      → (r ≡ Ok far.Two) ↔ ((¬ Memᴰ c vals) × (¬ ByOne b vals c) × ByTwo b vals c)
+  pub beyond : (b : ℕ) (vals : List ℕ) (c : ℕ) (r : Result Far Refusal) → Distances b vals c r → NotRefused r
+      → (r ≡ Ok far.Beyond) ↔ ((¬ Memᴰ c vals) × (¬ ByOne b vals c) × (¬ ByTwo b vals c))
   -- repeats in the list of values, and their order, change nothing
-  pub same_values : (b : ℕ) (xs ys : List ℕ) (c : ℕ) (r q : Far) → Distances b xs c r → Distances b ys c q → NotRefused r → NotRefused q
+  pub same_values : (b : ℕ) (xs ys : List ℕ) (c : ℕ) (r q : Result Far Refusal) → Distances b xs c r → Distances b ys c q → NotRefused r → NotRefused q
       → ((a : ℕ) → Memᴰ a xs ↔ Memᴰ a ys) → r ≡ q

@@ -1,8 +1,7 @@
 -- The proved sums of document 01, P1 to P10, and its sample listing to the byte, as one table; b = 8 throughout. Assumes nothing.
 use Rattle.std.specs.Prelude.{◌≡◌, List, [], ◌∷◌, ◌++◌, ℕ, ℤ, pos, neg_ℤ}
-use Rattle.std.specs.Prelude.{Ok, Err}
+use Rattle.std.specs.Prelude.{Some, Ok, Err}
 use Rattle.meaning.specs.declared.Far.TheVariants.{Zero, One, Two, Beyond}
-use Rattle.meaning.specs.declared.Operated.TheVariants.{Made}
 use Rattle.meaning.specs.declared.Refusal.TheVariants as no
 use Rattle.meaning.specs.declared.Row.{Row}
 use Rattle.meaning.specs.Constants.{apart}
@@ -45,12 +44,12 @@ pub record Examples : Type 0 where
   pub p2 : generated 8 (pos 71 ∷ []) ≡ row 0 0 0 3 1 0 7 ∷ row 0 1 6 0 0 0 71 ∷ []
   pub p3 : generated 8 (pos 43 ∷ []) ≡ row 0 0 2 0 1 0 3 ∷ row 1 0 2 0 1 0 11 ∷ row 2 0 2 0 1 0 43 ∷ []
   -- P4, P5: distances from {1} and from {1, 5}
-  pub p4_two : distance_told 8 (1 ∷ []) 45 ≡ Two
-  pub p4_beyond : distance_told 8 (1 ∷ []) 43 ≡ Beyond
-  pub p4_zero : distance_told 8 (1 ∷ []) 1 ≡ Zero
-  pub p5 : distance_told 8 (1 ∷ 5 ∷ []) 45 ≡ One
+  pub p4_two : distance_told 8 (1 ∷ []) 45 ≡ Ok Two
+  pub p4_beyond : distance_told 8 (1 ∷ []) 43 ≡ Ok Beyond
+  pub p4_zero : distance_told 8 (1 ∷ []) 1 ≡ Ok Zero
+  pub p5 : distance_told 8 (1 ∷ 5 ∷ []) 45 ≡ Ok One
   -- P6: u = 5, v = 1, no left shifts, s = 0: n = 6, r = 1, value 3; with r = 0, as row 2 after a row of 5, it is refusal 6 by check whatever its value
-  pub p6 : operated_under 8 5 1 0 0 0 ≡ Made (pos 6) 1 3
+  pub p6 : operated_under 8 5 1 0 0 0 ≡ Some (record { n = pos 6; r = 1; value = 3 })
   pub p6_refused : (c : ℕ) → checked 8 (pos 5 ∷ []) 2 (0 ∷ 0 ∷ 0 ∷ 2 ∷ 0 ∷ 0 ∷ 5 ∷ 1 ∷ 0 ∷ 0 ∷ 0 ∷ 0 ∷ 0 ∷ c ∷ []) ≡ Err (no.Row 2)
   pub p6_number : number (no.Row 2) ≡ 6
   -- P7: u = v, no left shifts, s = 1: n = 0, never valid, under any limit

@@ -1,6 +1,6 @@
 -- Document 01's table of refusals, a name for each line: the number N, the place P, and when. And the order in which each call looks at them.
 -- Assumes nothing.
-use Rattle.std.specs.Prelude.{◌≡◌, ◌⊎◌, ◌↔◌, ℕ, ◌+◌, ◌*◌, ◌%◌, ◌^◌, ◌≤◌, ◌<◌, ℤ, pos, length}
+use Rattle.std.specs.Prelude.{◌≡◌, ◌⊎◌, ◌↔◌, ℕ, ◌+◌, ◌*◌, ◌%◌, ◌^◌, ◌≤◌, ◌<◌, ℤ, pos, length, Result, Err}
 use mathlib.Core.List.{List, [], ◌∷◌, ◌++◌, Memᴰ}
 use Rattle.meaning.specs.declared.Row.{Row}
 use Rattle.meaning.specs.Basics.{First}
@@ -102,21 +102,21 @@ JobRefused s N P = line12 s N P ⊎ ((j : Asked) × AsksFor s j × FirstOf (job_
 -- ---- a call and its table
 
 -- r is a refusal with number N and place P
-abbrev pub IsRefusal : {R : Type 0} → (Refusal → R) → R → ℕ → ℕ → Type 0
-IsRefusal refused r N P = (why : Refusal) × (r ≡ refused why) × (number why ≡ N) × (place_of why ≡ P)
+abbrev pub IsRefusal : {R : Type 0} → Result R Refusal → ℕ → ℕ → Type 0
+IsRefusal r N P = (why : Refusal) × (r ≡ Err why) × (number why ≡ N) × (place_of why ≡ P)
 
 -- a call has one answer. It is a refusal with number N and place P exactly if they are those of the first line of its table whose situation holds
-pub record Refuses {R : Type 0} (refused : Refusal → R) (Call : R → Type 0) (table : List Situation) : Type 0 where
-  pub answers : (r : R) × Call r
-  pub one_answer : (r q : R) → Call r → Call q → r ≡ q
-  pub exactly : (r : R) → Call r → (N P : ℕ) → IsRefusal refused r N P ↔ FirstOf table N P
+pub record Refuses {R : Type 0} (Call : Result R Refusal → Type 0) (table : List Situation) : Type 0 where
+  pub answers : (r : Result R Refusal) × Call r
+  pub one_answer : (r q : Result R Refusal) → Call r → Call q → r ≡ q
+  pub exactly : (r : Result R Refusal) → Call r → (N P : ℕ) → IsRefusal r N P ↔ FirstOf table N P
 
 -- the same of a call with a lent slice, whose length is the room; and on refusal the slice is as it was
-pub record RefusesLent {R A : Type 0} (refused : Refusal → R) (Call : R → List A → List A → Type 0) (table : ℕ → List Situation) : Type 0 where
-  pub answers : (before : List A) → (r : R) × (after : List A) × Call r before after
-  pub one_answer : (r q : R) (before after later : List A) → Call r before after → Call q before later → (r ≡ q) × (after ≡ later)
-  pub exactly : (r : R) (before after : List A) → Call r before after → (N P : ℕ) → IsRefusal refused r N P ↔ FirstOf (table (length before)) N P
-  pub quiet : (why : Refusal) (before after : List A) → Call (refused why) before after → after ≡ before
+pub record RefusesLent {R A : Type 0} (Call : Result R Refusal → List A → List A → Type 0) (table : ℕ → List Situation) : Type 0 where
+  pub answers : (before : List A) → (r : Result R Refusal) × (after : List A) × Call r before after
+  pub one_answer : (r q : Result R Refusal) (before after later : List A) → Call r before after → Call q before later → (r ≡ q) × (after ≡ later)
+  pub exactly : (r : Result R Refusal) (before after : List A) → Call r before after → (N P : ℕ) → IsRefusal r N P ↔ FirstOf (table (length before)) N P
+  pub quiet : (why : Refusal) (before after : List A) → Call (Err why) before after → after ≡ before
 
 -- the only line printed for a job that is refused
 abbrev pub refused_line : ℕ → ℕ → List ℕ

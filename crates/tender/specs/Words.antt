@@ -1,11 +1,8 @@
 -- The buyer's words, as the conditions use them: constants, graphs, distance, bits, orders, lent slices. Assumes nothing.
-use Rattle.std.specs.Prelude.{◌≡◌, cond, ◌⊎◌, ℕ, zero, suc, ◌+◌, ◌-◌, ◌*◌, ◌%◌, ◌^◌, ◌≤◌, ◌<◌, ltb, ℤ, pos, negsuc, neg_ℤ, nat_abs, ◌+ℤ◌, ◌-ℤ◌, ◌*ℤ◌, length, get_or, drop}
-use Rattle.std.specs.Prelude.{Err}
+use Rattle.std.specs.Prelude.{◌≡◌, cond, ◌⊎◌, ℕ, zero, suc, ◌+◌, ◌-◌, ◌*◌, ◌%◌, ◌^◌, ◌≤◌, ◌<◌, ltb, ℤ, pos, negsuc, neg_ℤ, nat_abs, ◌+ℤ◌, ◌-ℤ◌, ◌*ℤ◌, length, get_or, drop, Result, Err}
 use mathlib.Core.List.{List, [], ◌∷◌, ◌++◌, map, Memᴰ}
 use Rattle.meaning.specs.declared.Row.{Row}
 use Rattle.meaning.specs.Constants.{odd_of}
-use Rattle.meaning.specs.declared.Far.{Far}
-use Rattle.meaning.specs.declared.Far.TheVariants as far
 use Rattle.meaning.specs.declared.Refusal.{Refusal}
 use Rattle.meaning.specs.Digits.{Digit, worth, canonic}
 
@@ -126,7 +123,7 @@ pub record ByTwo (b : ℕ) (vals : List ℕ) (c : ℕ) : Type 0 where
   pub first : ByOne b vals s
   pub second : ByOne b (s ∷ vals) c
 
-abbrev pub NotRefused : Far → Type 0
+abbrev pub NotRefused : {A : Type 0} → Result A Refusal → Type 0
 NotRefused r = (why : Refusal) → ¬ (r ≡ Err why)
 
 -- ---- bits, two's complement

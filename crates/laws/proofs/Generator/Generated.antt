@@ -23,11 +23,11 @@ use Rattle.meaning.specs.Operation.{Valid}
 use Rattle.meaning.specs.Graph.{row_length, rows, flat, values, ready, value_at, Fits, Sound, is_served}
 use Rattle.meaning.specs.Digits.{prefixes}
 use Rattle.meaning.specs.Generator.{remaining, rule_a, rule_b, prefix_row, rule_c, added, Draft, turn, turns, generated}
-use Rattle.meaning.specs.Refusals.{Answer, Accepted, buffer, few_rows, first_of, admit_order, generate_order, admitted, checked, Done, told, drawn, drawn_told, rows_written, given}
+use Rattle.meaning.specs.Refusals.{Answer, Accepted, buffer, few_rows, first_of, admit_order, generate_order, admitted, checked, Done, drawn, drawn_told, rows_written, given}
 use Rattle.laws.proofs.Lists.Tests.{T_of}
 use Rattle.laws.proofs.Graph.Rows.{rows_flat, length_flat, sound_append}
 use Rattle.laws.proofs.Digits.Chain.{Chain, chain_is, PrefixRow, prefix_row_lem}
-use Rattle.laws.proofs.Refusals.Stages.{never_both, first_accepts, all_accept, need_accepts, stops_at, passes_on, of_need}
+use Rattle.laws.proofs.Refusals.Stages.{told_accepts, told_refuses, never_both, first_accepts, all_accept, need_accepts, stops_at, passes_on, of_need}
 use Rattle.laws.proofs.Refusals.Checked.{admitted_of, of_good}
 use Rattle.laws.proofs.Lists.Index.{index_is}
 use Rattle.laws.proofs.Lists.Has.{in_has, has_in}
@@ -184,15 +184,11 @@ pub record Call (b : ℕ) (ts : List ℤ) (n : ℕ) (before now : List ℕ) : Ty
   pub few : n ≤ most_rows
   pub writes : now ≡ over (flat (generated b ts)) before
 
-reports : (a : Answer) (m n : ℕ) → Ok n ≡ told a m → (a ≡ Accepted) × (n ≡ m)
-reports (Ok _) m n e = (refl, cc)
-reports (Err why) m n e = absurd (let z : ◌≡◌ {A = ℕ} 0 1 = cc in omega arith)
-
 pub call_of : (b : ℕ) (ts : List ℤ) (n : ℕ) (before now : List ℕ)
     → Done (drawn_told b ts (length before)) (rows_written b ts (length before)) (Ok n) before now → Call b ts n before now
 unfolding drawn_told
 call_of b ts n before now d =
-    let (e, q) = reports (drawn b ts (length before)) (length (generated b ts)) n d.answers in
+    let (e, q) = told_accepts (drawn b ts (length before)) (length (generated b ts)) n d.answers in
     let (a, h) = calls b ts (length before) e in
     record { admits = a; room = h; count = q; few = omega (arith, q, few_rows_lem b ts a); writes = d.writes ∙ ap (λ (ws : List ℕ). over ws before) (drawn_writes b ts (length before) a h) }
 
@@ -207,20 +203,16 @@ call_accepted b ts n before now k =
     ap₂ (checked b ts) k.count k.writes ∙ generated_accepted b ts k.admits (drop (length (flat (generated b ts))) before)
 
 -- a call with room for a full graph refuses only what is not admitted
-refuses : (a : Answer) (m : ℕ) (why : Refusal) → Err why ≡ told a m → a ≡ Err why
-refuses (Ok _) m why e = absurd (let z : ◌≡◌ {A = ℕ} 0 1 = cc in omega arith)
-refuses (Err y) m why e = cc
-
 pub call_refused : (b : ℕ) (ts : List ℤ) (room : ℕ) (why : Refusal) → row_length * most_rows ≤ room → Err why ≡ drawn_told b ts room → admitted b ts ≡ Err why
 unfolding drawn_told
 call_refused b ts room why h e = go (admitted b ts) refl
   where
-    told : drawn b ts room ≡ Err why
-    told = refuses (drawn b ts room) (length (generated b ts)) why e
+    drew : drawn b ts room ≡ Err why
+    drew = told_refuses (drawn b ts room) (length (generated b ts)) why e
 
     go : (a : Answer) → admitted b ts ≡ a → admitted b ts ≡ Err why
-    go (Ok _) f = never_both why (sym (drawn_accepts b ts room f h) ∙ told)
+    go (Ok _) f = never_both why (sym (drawn_accepts b ts room f h) ∙ drew)
     go (Err y) f =
         let e : Err y ≡ first_of (admit_order b ts ++ (buffer (row_length * most_rows) room ∷ [])) =
         unfold admitted in (stops_at (admit_order b ts) (buffer (row_length * most_rows) room ∷ []) (Err y) y (sym f) refl) in
-        f ∙ e ∙ sym (drawn_is b ts room) ∙ told
+        f ∙ e ∙ sym (drawn_is b ts room) ∙ drew

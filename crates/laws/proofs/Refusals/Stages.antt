@@ -12,7 +12,7 @@ use lib.ListN.{length}
 use Rattle.meaning.specs.declared.Refusal.{Refusal}
 use Rattle.meaning.specs.declared.Refusal.TheVariants as no
 use Rattle.meaning.specs.Basics.{all, over}
-use Rattle.meaning.specs.Refusals.{Answer, Accepted, need, buffer, first_of, Done, given}
+use Rattle.meaning.specs.Refusals.{Answer, Accepted, need, buffer, first_of, Done, told, given}
 use Rattle.laws.proofs.Lists.Tests.{All, all_of, of_all}
 
 -- a contract that says what an answer equals allows one answer
@@ -43,6 +43,15 @@ never_both why e = absurd (let z : ◌≡◌ {A = ℕ} 0 1 = cc in omega arith)
 
 pub refused_same : {A : Type 0} (a b : Refusal) → ◌≡◌ {A = Result A Refusal} (Err a) (Err b) → a ≡ b
 refused_same a b e = cc
+
+-- what is told is the value of a call that accepts, or the refusal of one that refuses
+pub told_accepts : {A : Type 0} (a : Answer) (x y : A) → Ok y ≡ told a x → (a ≡ Accepted) × (y ≡ x)
+told_accepts (Ok _) x y e = (refl, cc)
+told_accepts (Err why) x y e = absurd (let z : ◌≡◌ {A = ℕ} 0 1 = cc in omega arith)
+
+pub told_refuses : {A : Type 0} (a : Answer) (x : A) (why : Refusal) → Err why ≡ told a x → a ≡ Err why
+told_refuses (Ok _) x why e = absurd (let z : ◌≡◌ {A = ℕ} 0 1 = cc in omega arith)
+told_refuses (Err y) x why e = cc
 
 -- ---- a list of stages
 
