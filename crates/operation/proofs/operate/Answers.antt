@@ -4,7 +4,7 @@ use mathlib.Core.Bool.{true, cond}
 use native.Mathlib.Omega.{arith}
 use Prim.Native.Nat.{◌≤◌}
 use lib.Dec.{leb→le}
-use Rattle.meaning.specs.declared.Operated.TheVariants.{Invalid}
+use Rattle.std.specs.Prelude.{None}
 use Rattle.meaning.specs.Basics.{all}
 use Rattle.meaning.specs.Limits.{bit_tests, limit}
 use Rattle.meaning.specs.Operation.{operated, operated_under}
@@ -22,7 +22,7 @@ pub returns-then-not-within : goal.returns-then-not-within
 unfolding operated_under
 returns-then-not-within c =
     let s = c.args in
-    sym (ap (λ t. cond t (operated (limit s.b) s.u s.v s.l1 s.l2 s.s) Invalid) (sym c.within.ensures ∙ c.if-not-within.true))
+    sym (ap (λ t. cond t (operated (limit s.b) s.u s.v s.l1 s.l2 s.s) None) (sym c.within.ensures ∙ c.if-not-within.true))
 
 pub limit-limit-requires : goal.limit-limit-requires
 limit-limit-requires c = small c
@@ -36,4 +36,4 @@ returns c =
     let s = c.args in
     c.made.ensures
     ∙ ap (λ L. operated L s.u s.v s.l1 s.l2 s.s) c.limit-limit.ensures
-    ∙ sym (ap (λ t. cond t (operated (limit s.b) s.u s.v s.l1 s.l2 s.s) Invalid) (in_range (goal.at.returns c).Else-not-within))
+    ∙ sym (ap (λ t. cond t (operated (limit s.b) s.u s.v s.l1 s.l2 s.s) None) (in_range (goal.at.returns c).Else-not-within))
