@@ -1,13 +1,11 @@
 -- What the code finds of a target is what the definition says, and fits signed words. Assumes nothing.
-use mathlib.Core.Path.{◌≡◌, refl, sym, ◌∙◌}
-use mathlib.Core.Bool.{true, false}
+use mathlib.Core.Path.{◌≡◌, refl, sym, ap, ◌∙◌}
 use Prim.Native.Nat.{ℕ, zero, suc, ◌/◌, ◌^◌, ◌≤◌, ◌<◌}
-use native.Mathlib.Nat.{not-suc-le-zero, div-le_self}
+use native.Mathlib.Nat.{div-le_self}
 use native.Mathlib.Omega.{arith}
-use borrow.Author.Tests.{ltb-true}
 use lib.Count.{count_trailing_zeros}
 use lib.IntN.{ℤ, pos, negsuc, nat_abs}
-use lib.Signed.{lt_z}
+use Rattle.std.specs.Int.{int_signum}
 use mir.Syntax.{w32}
 use mir.Val.{SFits, to_z, of_z}
 use mir.ValLaws.{to_z-of_z}
@@ -39,16 +37,22 @@ at_zero (negsuc n) e = absurd (no n e)
 pub zero_apart : (t : ℤ) (m : ℕ) → SFits w32 t → m ≡ nat_abs (to_z w32 (of_z w32 t)) → m ≡ 0 → record { sign = pos 0; shift = 0; odd = 0 } ≡ apart t
 zero_apart t m h e z = at_zero t (sym (rw (to_z-of_z w32 t h) at e) ∙ z)
 
-pub at_below : (t : ℤ) → nat_abs t < 2 ^ 32 → lt_z t (pos 0) ≡ true → found (negsuc 0) (nat_abs t) ≡ apart t
+-- what code finds of the magnitude and the sign, of t as its bits say it
+pub taken_apart : (t s : ℤ) (m : ℕ) → SFits w32 t → m ≡ nat_abs (to_z w32 (of_z w32 t)) → m < 2 ^ 32 → (m ≡ 0 → ⊥)
+    → s ≡ to_z w32 (of_z w32 (int_signum (to_z w32 (of_z w32 t)))) → found s m ≡ apart t
 unfolding apart
-at_below (pos n) h e = absurd (not-suc-le-zero (ltb-true n 0 e))
-at_below (negsuc n) h e = found_is (negsuc 0) (suc n) (omega arith) h
-
-pub at_above : (t : ℤ) → nat_abs t < 2 ^ 32 → (nat_abs t ≡ 0 → ⊥) → lt_z t (pos 0) ≡ false → found (pos 1) (nat_abs t) ≡ apart t
-unfolding apart
-at_above (pos zero) h z e = absurd (z refl)
-at_above (pos (suc n)) h z e = found_is (pos 1) (suc n) (omega arith) h
-at_above (negsuc n) h z e = absurd (let q : ◌≡◌ {A = ℕ} 0 1 = cc in omega arith)
+taken_apart t s m h e l z f = go t (rw (to_z-of_z w32 t h) at e) (rw (to_z-of_z w32 t h) at f)
+  where
+    go : (t : ℤ) → m ≡ nat_abs t → s ≡ to_z w32 (of_z w32 (int_signum t)) → found s m ≡ apart t
+    go (pos zero) e f = absurd (z e)
+    go (pos (suc n)) e f =
+        let w : SFits w32 (pos 1) = omega arith in
+        let g : int_signum (pos (suc n)) ≡ pos 1 = ap pos (omega arith) in
+        let k : s ≡ pos 1 = f ∙ ap (λ z. to_z w32 (of_z w32 z)) g ∙ to_z-of_z w32 _ w in
+        rw (k, e) (found_is (pos 1) (suc n) (omega arith) (omega arith))
+    go (negsuc n) e f =
+        let w : SFits w32 (negsuc 0) = omega arith in
+        rw (f, to_z-of_z w32 _ w, e) (found_is (negsuc 0) (suc n) (omega arith) (omega arith))
 
 -- ---- the three words
 
