@@ -4,11 +4,10 @@ use mathlib.Core.List.{List}
 use mathlib.Core.Bool.{Bool, true, false, ◌&&◌, cond}
 use Prim.Native.Nat.{ℕ, suc, ◌≤◌, ◌<◌}
 use native.Mathlib.Omega.{arith}
-use borrow.Author.Tests.{le-leb, lt-ltb, le-ltb}
+use borrow.Author.Tests.{le-leb, lt-ltb, le-ltb, eq-eqb, ne_eqb}
 use lib.Dec.{T, eqb, eqb→eq}
-use lib.IntN.{ℤ}
-use Rattle.meaning.specs.declared.Operated.{Operated}
-use Rattle.meaning.specs.declared.Operated.TheVariants.{Made, Invalid}
+use Rattle.std.specs.Prelude.{Option, Some, None}
+use Rattle.meaning.specs.declared.Made.{Made}
 use Rattle.meaning.specs.declared.Row.{Row}
 use Rattle.meaning.specs.Basics.{all}
 use Rattle.meaning.specs.Limits.{bit_tests, limit}
@@ -22,45 +21,58 @@ module _ (b u v l1 l2 s : ℕ) where
   abbrev range : Bool
   range = all (bit_tests b)
 
-  abbrev under : Bool → Operated
-  under t = cond t (operated (limit b) u v l1 l2 s) Invalid
+  abbrev under : Bool → Option Made
+  under t = cond t (operated (limit b) u v l1 l2 s) None
 
   -- within the bit limit's range it is the operation
   inside : T range → operated_under b u v l1 l2 s ≡ operated (limit b) u v l1 l2 s
   unfolding operated_under
   inside t = ap under (true_of range t)
 
-  made_inside : (n : ℤ) (r c : ℕ) → operated_under b u v l1 l2 s ≡ Made n r c → T range × Valid (limit b) u v l1 l2 s r c
+  made_inside : (m : Made) → operated_under b u v l1 l2 s ≡ Some m → T range × Valid (limit b) u v l1 l2 s m.r m.value
   unfolding operated_under
-  made_inside n r c e = go range refl e
+  made_inside m e = go range refl e
     where
-      go : (t : Bool) → range ≡ t → under t ≡ Made n r c → T range × Valid (limit b) u v l1 l2 s r c
-      go true q f = (T_of q, operated_valid (limit b) u v l1 l2 s n r c f)
+      go : (t : Bool) → range ≡ t → under t ≡ Some m → T range × Valid (limit b) u v l1 l2 s m.r m.value
+      go true q f = (T_of q, operated_valid (limit b) u v l1 l2 s m.n m.r m.value f)
       go false q f = absurd (let z : ◌≡◌ {A = ℕ} 0 1 = cc in omega arith)
 
   abbrev agreed : ℕ → ℕ → Bool
   agreed r c = range && is_valid (limit b) u v l1 l2 s r c
 
-  agreed_made : (r c : ℕ) → T (agreed r c) → operated_under b u v l1 l2 s ≡ Made (whole u v l1 l2 s) r c
+  agreed_made : (r c : ℕ) → T (agreed r c) → operated_under b u v l1 l2 s ≡ Some (record { n = whole u v l1 l2 s; r = r; value = c })
   agreed_made r c t =
       let p = both_of range (is_valid (limit b) u v l1 l2 s r c) t in
       inside p.0 ∙ operated_made (limit b) u v l1 l2 s r c (valid_of_test (limit b) u v l1 l2 s r c p.1)
 
-  pub agrees_invalid : (r c : ℕ) → operated_under b u v l1 l2 s ≡ Invalid → false ≡ agreed r c
-  agrees_invalid r c e =
+  pub agrees_none : (r c : ℕ) → operated_under b u v l1 l2 s ≡ None → false ≡ agreed r c
+  agrees_none r c e =
       sym (false_of (agreed r c) (λ t. let q = agreed_made r c t in let z : ◌≡◌ {A = ℕ} 0 1 = cc in omega arith))
 
-  pub agrees_other : (n : ℤ) (r c r' c' : ℕ) → operated_under b u v l1 l2 s ≡ Made n r' c' → (r' ≡ r → ⊥) → false ≡ agreed r c
-  agrees_other n r c r' c' e h =
-      sym (false_of (agreed r c) (λ t. h (let q = agreed_made r c t in let z : r' ≡ r = cc in z)))
+  agrees_made : (m : Made) (r c : ℕ) → operated_under b u v l1 l2 s ≡ Some m → (eqb m.r r && eqb m.value c) ≡ agreed r c
+  agrees_made m r c e = bool_ext (eqb m.r r && eqb m.value c) (agreed r c) there back
+    where
+      there : T (eqb m.r r && eqb m.value c) → T (agreed r c)
+      there t =
+          let (f, g) = both_of (eqb m.r r) (eqb m.value c) t in
+          let (p, k) = made_inside m e in
+          of_both range (is_valid (limit b) u v l1 l2 s r c) p
+          (test_of_valid (limit b) u v l1 l2 s r c (subst₂ (Valid (limit b) u v l1 l2 s) (eqb→eq m.r r f) (eqb→eq m.value c g) k))
 
-  pub agrees_value : (n : ℤ) (r c r' c' : ℕ) → operated_under b u v l1 l2 s ≡ Made n r' c' → r' ≡ r → eqb c' c ≡ agreed r c
-  agrees_value n r c r' c' e h =
-      bool_ext (eqb c' c) (agreed r c)
-      (λ t.
-      let (p, k) = made_inside n r' c' e in
-      of_both range (is_valid (limit b) u v l1 l2 s r c) p (test_of_valid (limit b) u v l1 l2 s r c (subst₂ (Valid (limit b) u v l1 l2 s) h (eqb→eq c' c t) k)))
-      (λ t. let q = agreed_made r c t in eqb_of_eq c' c (let z : c' ≡ c = cc in z))
+      same : {x y : Made} → ◌≡◌ {A = Option Made} (Some x) (Some y) → x ≡ y
+      same e = cc
+
+      back : T (agreed r c) → T (eqb m.r r && eqb m.value c)
+      back t =
+          let q : m ≡ record { n = whole u v l1 l2 s; r = r; value = c } = same (sym e ∙ agreed_made r c t) in
+          of_both (eqb m.r r) (eqb m.value c) (eqb_of_eq m.r r (ap (λ (x : Made). x.r) q)) (eqb_of_eq m.value c (ap (λ (x : Made). x.value) q))
+
+  -- as code meets the two tests
+  pub agrees_value : (m : Made) (r c : ℕ) → operated_under b u v l1 l2 s ≡ Some m → m.r ≡ r → eqb m.value c ≡ agreed r c
+  agrees_value m r c e h = rw (eq-eqb m.r r h) at (agrees_made m r c e)
+
+  pub agrees_other : (m : Made) (r c : ℕ) → operated_under b u v l1 l2 s ≡ Some m → (m.r ≡ r → ⊥) → eqb m.r r ≡ agreed r c
+  agrees_other m r c e h = ne_eqb m.r r h ∙ (rw (ne_eqb m.r r h) at (agrees_made m r c e))
 
 -- ---- a row of a slice
 

@@ -11,52 +11,43 @@ ghost use Rattle.meaning.specs.Graph.{RowsIn, rows, is_served};
 ghost use Rattle.meaning.specs.Refusals.{need_each, valid_rows, all_served};
 ghost use Rattle.meaning.specs.Calls.{Checks, ChecksWidth};
 
-use meaning::{Answer, LEAST_WIDTH, MOST_ROWS, MOST_WIDTH, Refusal};
+use meaning::{LEAST_WIDTH, MOST_ROWS, MOST_WIDTH, Refusal};
 
 // Refusal 6 with the first row that is not valid.
-fn valid_rows(b: u32, n: usize, words: &[u32]) -> Answer
+fn valid_rows(b: u32, n: usize, words: &[u32]) -> Result<(), Refusal>
     requires { ((2 ≤ b) × (b ≤ 16)) × RowsIn n words.now }
     ensures { result ≡ valid_rows b (rows n words.now) }
 {
-    let mut i = 0;
-    while i < n {
+    for i in 0..n {
         if !valid_row::row_fits(b, words, i) {
-            return Answer::Refused(Refusal::Row((i + 1) as u32));
+            return Err(Refusal::Row((i + 1) as u32));
         }
-        i += 1;
     }
-    Answer::Accepted
+    Ok(())
 }
 
 // An odd part needs no row, or some row has it: the rows' values are lent.
 fn served(odd: u32, values: &[u32]) -> bool
     ensures { result ≡ (leb odd 1 || has values.now odd) }
 {
-    if odd <= 1 {
-        return true;
-    }
-    arith::has(values, values.len(), odd)
+    odd <= 1 || arith::has(values, values.len(), odd)
 }
 
 // Refusal 7 with the first target whose odd part no row has.
-fn each_served(ts: &[i32], values: &[u32]) -> Answer
+fn each_served(ts: &[i32], values: &[u32]) -> Result<(), Refusal>
     requires { length ts.now ≤ most_targets }
     ensures { result ≡ need_each Unserved (λ _ t. is_served values.now t) [] ts.now }
 {
-    let mut i = 0;
-    while i < ts.len() {
-        let t = ts[i];
-        let parts = constants::take_apart(t);
-        if !served(parts.odd, values) {
-            return Answer::Refused(Refusal::Unserved((i + 1) as u32));
+    for (i, t) in ts.iter().enumerate() {
+        if !served(constants::take_apart(*t).odd, values) {
+            return Err(Refusal::Unserved((i + 1) as u32));
         }
-        i += 1;
     }
-    Answer::Accepted
+    Ok(())
 }
 
 // The same of the rows in a slice.
-fn all_served(ts: &[i32], n: usize, words: &[u32]) -> Answer
+fn all_served(ts: &[i32], n: usize, words: &[u32]) -> Result<(), Refusal>
     requires { (length ts.now ≤ most_targets) × RowsIn n words.now }
     ensures { result ≡ all_served (rows n words.now) ts.now }
 {
@@ -66,33 +57,24 @@ fn all_served(ts: &[i32], n: usize, words: &[u32]) -> Answer
 }
 
 // Refusals 1, 2, 3, 5, 6 and 7. Words beyond the rows are ignored.
-pub fn check(b: u32, ts: &[i32], n: usize, words: &[u32]) -> Answer
+pub fn check(b: u32, ts: &[i32], n: usize, words: &[u32]) -> Result<(), Refusal>
     ensures { Checks b ts.now n words.now result }
 {
-    let admitted = constants::admit(b, ts);
-    let Answer::Accepted = admitted else {
-        return admitted;
-    };
+    constants::admit(b, ts)?;
     if !rows::within(n, words) {
-        return Answer::Refused(Refusal::RowCount);
+        return Err(Refusal::RowCount);
     }
-    let valid = valid_rows(b, n, words);
-    let Answer::Accepted = valid else {
-        return valid;
-    };
+    valid_rows(b, n, words)?;
     all_served(ts, n, words)
 }
 
 // As check, then 9: for the calls that speak of widths.
-pub fn check_width(b: u32, ts: &[i32], n: usize, words: &[u32], input: u32) -> Answer
+pub fn check_width(b: u32, ts: &[i32], n: usize, words: &[u32], input: u32) -> Result<(), Refusal>
     ensures { ChecksWidth b ts.now n words.now input result }
 {
-    let checked = check(b, ts, n, words);
-    let Answer::Accepted = checked else {
-        return checked;
-    };
+    check(b, ts, n, words)?;
     if !arith::within(input as usize, LEAST_WIDTH, MOST_WIDTH) {
-        return Answer::Refused(Refusal::Width);
+        return Err(Refusal::Width);
     }
-    checked
+    Ok(())
 }

@@ -5,20 +5,16 @@ ghost use Rattle.meaning.specs.Limits.{bit_tests, limit};
 ghost use Rattle.meaning.specs.Operation.{is_valid};
 ghost use Rattle.meaning.specs.Graph.{row_length, row_after, rows, does_fit};
 
-use meaning::{Operated, Row};
+use meaning::Row;
 
 // A row's shifts, sign, r and value agree with a valid operation on u and v.
 fn agrees(b: u32, u: u32, v: u32, x: Row) -> bool
     ensures { result ≡ (all (bit_tests b) && is_valid (limit b) u v x.l1 x.l2 x.s x.r x.value) }
 {
-    let made = operation::operate(b, u, v, x.l1, x.l2, x.s);
-    let Operated::Made { n: _, r, value } = made else {
+    let Some(made) = operation::operate(b, u, v, x.l1, x.l2, x.s) else {
         return false;
     };
-    if r != x.r {
-        return false;
-    }
-    value == x.value
+    made.r == x.r && made.value == x.value
 }
 
 // The row after i rows is valid after them, under the bit limit b.
@@ -29,10 +25,7 @@ pub fn row_fits(b: u32, words: &[u32], i: usize) -> bool
     let x = rows::row_after(words, i);
     let first = x.u as usize;
     let second = x.v as usize;
-    if i < first {
-        return false;
-    }
-    if i < second {
+    if i < first || i < second {
         return false;
     }
     let u = rows::value_at(words, i, first);

@@ -1,5 +1,5 @@
--- `valid_rows` meets its contract. The loop's invariant: the answer for the rows is the answer for what is left of them. Assumes nothing.
-use mathlib.Core.Path.{◌≡◌, refl, sym, ap₂, ◌∙◌}
+-- `valid_rows` meets its contract. Assumes nothing.
+use mathlib.Core.Path.{◌≡◌, sym, ap₂, ◌∙◌}
 use native.Mathlib.Omega.{arith}
 use lib.ListN.{get_or, take}
 use Rattle.meaning.specs.declared.Refusal.TheVariants as no
@@ -15,34 +15,27 @@ test_is : (c : After-row_fits) → let a = c.args in let xs = rows a.n a.words.n
     c.row_fits.result ≡ does_fit (limit a.b) (take c.loop-i.i xs) (get_or xs c.loop-i.i (row_after a.words.now 0))
 test_is c =
     let a = c.args in
-    let i = c.loop-i.i in
     c.row_fits.ensures
-    ∙ sym (ap₂ (does_fit (limit a.b)) (rows_take a.n a.words.now i (omega arith)) (row_of a.n a.words.now i _ c.loop-i-test.true))
-
-pub loop-i-init : goal.loop-i-init
-loop-i-init c = (omega arith, refl)
+    ∙ sym (ap₂ (does_fit (limit a.b)) (rows_take a.n a.words.now c.loop-i.i (omega arith)) (row_of a.n a.words.now c.loop-i.i _ (omega arith)))
 
 pub returns-then-not-row_fits : goal.returns-then-not-row_fits
 returns-then-not-row_fits c =
     let a = c.args in
     sym
-    (c.loop-i.invariant.1
+    (c.loop-i.invariant
     ∙ each_hit no.Row (does_fit (limit a.b)) (row_after a.words.now 0) c.loop-i.i (rows a.n a.words.now)
-    (omega (arith, length_rows a.n a.words.now, c.loop-i-test.true)) (sym (test_is (goal.at.returns-then-not-row_fits c).After-row_fits) ∙ c.if-not-row_fits.true))
+    (omega (arith, length_rows a.n a.words.now)) (sym (test_is (goal.at.returns-then-not-row_fits c).After-row_fits) ∙ c.if-not-row_fits.true))
 
 pub loop-i-preserved : goal.loop-i-preserved
 loop-i-preserved c =
-    let a = c.args in (
-      omega arith,
-      c.loop-i.invariant.1
-          ∙ each_miss no.Row (does_fit (limit a.b)) (row_after a.words.now 0) c.loop-i.i (rows a.n a.words.now)
-          (omega (arith, length_rows a.n a.words.now, c.loop-i-test.true)) (sym (test_is (goal.at.loop-i-preserved c).After-row_fits) ∙ c.if-not-row_fits.false),
-    )
+    let a = c.args in
+    c.loop-i.invariant
+    ∙ each_miss no.Row (does_fit (limit a.b)) (row_after a.words.now 0) c.loop-i.i (rows a.n a.words.now)
+    (omega (arith, length_rows a.n a.words.now)) (sym (test_is (goal.at.loop-i-preserved c).After-row_fits) ∙ c.if-not-row_fits.false)
 
 pub returns : goal.returns
 returns c =
     let a = c.args in
     sym
-    (c.loop-i.invariant.1
-    ∙ each_end no.Row (does_fit (limit a.b)) (row_after a.words.now 0) c.loop-i.i (rows a.n a.words.now)
-    (omega (arith, length_rows a.n a.words.now, c.loop-i-test.false)))
+    (c.loop-i.invariant
+    ∙ each_end no.Row (does_fit (limit a.b)) (row_after a.words.now 0) c.loop-i.i (rows a.n a.words.now) (omega (arith, length_rows a.n a.words.now)))

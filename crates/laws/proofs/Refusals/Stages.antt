@@ -1,7 +1,7 @@
 -- The stages of a call: it accepts exactly if each stage does, and refuses exactly by the first stage that refuses; what a stage of one condition
 -- says; and stages followed by a lent buffer's. Assumes nothing.
 use mathlib.Core.Path.{◌≡◌, refl, sym, ap, ◌∙◌}
-use Rattle.std.specs.Prelude.{Result, Ok, Err}
+use Rattle.std.specs.Prelude.{Result, Ok, Err, IsErrAnd}
 use mathlib.Core.Bool.{Bool, true, false, cond}
 use mathlib.Core.List.{List, [], ◌∷◌, ◌++◌}
 use Prim.Native.Nat.{ℕ, ◌≤◌, ◌<◌}
@@ -43,6 +43,11 @@ never_both why e = absurd (let z : ◌≡◌ {A = ℕ} 0 1 = cc in omega arith)
 
 pub refused_same : {A : Type 0} (a b : Refusal) → ◌≡◌ {A = Result A Refusal} (Err a) (Err b) → a ≡ b
 refused_same a b e = cc
+
+-- a refusal that `?` hands on is the one that it was given
+pub handed_on : {A : Type 0} (r : Result A Refusal) (why : Refusal) → IsErrAnd r (λ x. x ≡ why) → r ≡ Err why
+handed_on (Ok x) why h = absurd h
+handed_on (Err x) why h = ap Err h
 
 -- what is told is the value of a call that accepts, or the refusal of one that refuses
 pub told_accepts : {A : Type 0} (a : Answer) (x y : A) → Ok y ≡ told a x → (a ≡ Accepted) × (y ≡ x)

@@ -1,14 +1,12 @@
 -- `row_fits` meets its contract. Assumes nothing.
 use Rattle.graph.proofs.ValidRowLaws.{fits_first, fits_second, fits_read}
 use Rattle.graph.proofs.valid_row.row_fits.Goals as goal
+use Rattle.graph.proofs.valid_row.row_fits.Goals.{then-i-first-via-then-i-first, then-i-first-via-else-i-first+then-i-second}
 
 pub returns-then-i-first : goal.returns-then-i-first
-returns-then-i-first c = fits_first _ _ _ (rw c.row_after-x.ensures at c.if-i-first.true)
-
-pub returns-then-i-second : goal.returns-then-i-second
-returns-then-i-second c =
+returns-then-i-first c =
     let e = c.row_after-x.ensures in
-    fits_second _ _ _ (rw e at c.if-i-first.false) (rw e at c.if-i-second.true)
+    elim c.then-i-first.branch [ then-i-first-via-then-i-first w ↦ fits_first _ _ _ (rw e at w.if-i-first.true) | then-i-first-via-else-i-first+then-i-second w ↦ fits_second _ _ _ (rw e at w.if-i-first.false) (rw e at w.if-i-second.true) ]
 
 pub returns : goal.returns
 returns c =
