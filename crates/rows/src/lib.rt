@@ -8,43 +8,34 @@ ghost use Rattle.meaning.specs.Graph.{row_length, row_tests, words, row_after, r
 
 use meaning::{MOST_ROWS, ROW_LENGTH, Row};
 
-// Where the value stands among a row's words.
-const VALUE: usize = 6;
-
 // The row after i rows.
 pub fn row_after(words: &[u32], i: usize) -> Row
     requires { row_length * (i + 1) ≤ length words.now }
     ensures { result ≡ row_after words.now i }
 {
     let at = ROW_LENGTH * i;
+    let row = &words[at..at + ROW_LENGTH];
     Row {
-        u: words[at],
-        v: words[at + 1],
-        l1: words[at + 2],
-        l2: words[at + 3],
-        s: words[at + 4],
-        r: words[at + 5],
-        value: words[at + 6],
+        u: row[0],
+        v: row[1],
+        l1: row[2],
+        l2: row[3],
+        s: row[4],
+        r: row[5],
+        value: row[6],
     }
 }
 
-// The value of the row after i rows.
-fn value_after(words: &[u32], i: usize) -> u32
-    requires { row_length * (i + 1) ≤ length words.now }
-    ensures { result ≡ (row_after words.now i).value }
-{
-    words[ROW_LENGTH * i + VALUE]
-}
-
 // The value of an index, over the first i rows: the input's is 1.
+#[tactic(auto, using(crate::proofs::Places::value_before))]
 pub fn value_at(words: &[u32], i: usize, index: usize) -> u32
     requires { (index ≤ i) × (row_length * i ≤ length words.now) }
     ensures { result ≡ value_at (rows i words.now) index }
 {
-    if index == 0 {
-        return 1;
+    match index {
+        0 => 1,
+        _ => row_after(words, index - 1).value,
     }
-    value_after(words, index - 1)
 }
 
 // The values of n rows, over the front of out.
@@ -52,46 +43,36 @@ pub fn values(n: usize, words: &[u32], out: &mut [u32])
     requires { (row_length * n ≤ length words.now) × (n ≤ length out.old) }
     ensures { out.new ≡ over (graph_values (rows n words.now)) out.old }
 {
-    let mut i = 0;
-    while i < n {
-        out[i] = value_after(words, i);
-        i += 1;
+    for (i, place) in out[..n].iter_mut().enumerate() {
+        *place = row_after(words, i).value;
     }
 }
 
 // n rows are not too many, and do not exceed the slice.
-#[tactic(auto, using(crate::proofs::Counts::too_many))]
 pub fn within(n: usize, words: &[u32]) -> bool
     ensures { result ≡ all (row_tests n words.now) }
 {
-    if MOST_ROWS < n {
-        return false;
-    }
-    ROW_LENGTH * n <= words.len()
+    n <= MOST_ROWS && ROW_LENGTH * n <= words.len()
 }
 
 // The index that an output of some odd part uses, by the rows' values: the input has 1, and zero, which has none, uses it too.
-#[tactic(auto, using(crate::proofs::Outputs::of_input, crate::proofs::Outputs::of_row))]
+#[tactic(auto, unfolding(meaning::specs::Graph::output_index))]
 pub fn output_index(values: &[u32], odd: u32) -> usize
     ensures { result ≡ output_index values.now odd }
 {
     if odd <= 1 {
-        return 0;
+        0
+    } else {
+        arith::index_from(1, values, values.len(), odd)
     }
-    arith::index_from(1, values, values.len(), odd)
 }
 
 // The row's words, written after i rows.
+#[tactic(auto, using(crate::proofs::Places::put_over))]
 pub fn put_row(out: &mut [u32], i: usize, x: Row)
     requires { row_length * (i + 1) ≤ length out.old }
     ensures { out.new ≡ over_at (row_length * i) (words x) out.old }
 {
     let at = ROW_LENGTH * i;
-    out[at] = x.u;
-    out[at + 1] = x.v;
-    out[at + 2] = x.l1;
-    out[at + 3] = x.l2;
-    out[at + 4] = x.s;
-    out[at + 5] = x.r;
-    out[at + 6] = x.value;
+    out[at..at + ROW_LENGTH].copy_from_slice(&[x.u, x.v, x.l1, x.l2, x.s, x.r, x.value]);
 }
