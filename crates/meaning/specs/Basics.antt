@@ -1,6 +1,6 @@
 -- What the other pages share: tests and searches over lists, and the count of trailing zero bits. Assumes nothing.
-use Rattle.std.specs.Prelude.{◌≡◌, Bool, true, false, ◌&&◌, ◌||◌, cond, List, [], ◌∷◌, ◌++◌, ℕ, zero, suc, ◌+◌, ◌-◌, ◌/◌, ◌%◌, eqb, length, take, drop}
-use Rattle.std.proofs.Math.Option.{Option, some, none}
+use Rattle.std.specs.Prelude.{◌≡◌, Bool, true, false, ◌&&◌, ◌||◌, cond, List, [], ◌∷◌, ◌++◌, Option, None, ℕ, zero, suc, ◌+◌, ◌-◌, ◌/◌, ◌%◌, eqb, length, take, drop}
+use Rattle.std.specs.Option.{option_or}
 
 -- a - b or b - a, whichever is not negative
 abbrev pub difference : ℕ → ℕ → ℕ
@@ -56,13 +56,9 @@ pub record First {A : Type 0} (P : List A → A → Type 0) (xs : List A) (p : �
   pub place : p ≡ length before + 1
 
 -- what the first member that gives something gives
-unfoldable pub first_some {ℓ κ} : {A : Type ℓ} {B : Type κ} → (A → Option B) → List A → Option B
-first_some f [] = none
-first_some f (x ∷ xs) = elim (f x) [ none ↦ first_some f xs | some b ↦ some b ]
-
-unfoldable pub and_then {ℓ κ} : {A : Type ℓ} {B : Type κ} → Option A → (A → Option B) → Option B
-and_then none f = none
-and_then (some a) f = f a
+unfoldable pub first_some {ℓ} : {A : Type ℓ} {B : Type 0} → (A → Option B) → List A → Option B
+first_some f [] = None
+first_some f (x ∷ xs) = option_or (f x) (first_some f xs)
 
 -- a list written over the front of another: the rest keeps its contents
 unfoldable pub over {ℓ} : {A : Type ℓ} → List A → List A → List A

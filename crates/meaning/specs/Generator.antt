@@ -1,10 +1,9 @@
 -- The generator's rule. Assumes nothing.
-use Rattle.std.specs.Prelude.{cond, List, [], ◌∷◌, ◌++◌, map, ℕ, zero, suc, ◌-◌, ℤ, length, get_or}
-use Rattle.std.proofs.Math.Option.{Option, some, none}
+use Rattle.std.specs.Prelude.{cond, List, [], ◌∷◌, ◌++◌, map, Option, Some, None, option_map, option_and_then, unwrap_or, ℕ, zero, suc, ◌-◌, ℤ, length, get_or}
 use Rattle.meaning.specs.declared.Choice.{Choice}
 use Rattle.meaning.specs.declared.Row.{Row}
 use Rattle.meaning.specs.declared.Prefix.{Prefix}
-use Rattle.meaning.specs.Basics.{has, index_from, up_from, zeros, first_some, and_then}
+use Rattle.meaning.specs.Basics.{has, index_from, up_from, zeros, first_some}
 use Rattle.meaning.specs.Limits.{limit}
 use Rattle.meaning.specs.Constants.{wanted}
 use Rattle.meaning.specs.Operation.{size}
@@ -17,7 +16,7 @@ unfoldable pub chosen : ℕ → List ℕ → ℕ → ℕ → ℕ → ℕ → ℕ
 chosen L vals c i j l1 l2 s =
     let u : ℕ = get_or vals i 0 in
     let v : ℕ = get_or vals j 0 in
-    cond (does_give L u v l1 l2 s c) (some (record { u = i; v = j; l1 = l1; l2 = l2; s = s; r = zeros (size u v l1 l2 s) })) none
+    cond (does_give L u v l1 l2 s c) (Some (record { u = i; v = j; l1 = l1; l2 = l2; s = s; r = zeros (size u v l1 l2 s) })) None
 
 -- the first valid choice in the order u index, v index, l1, l2, s, with the u index at most the v index
 unfoldable pub choice_for : ℕ → List ℕ → ℕ → Option Choice
@@ -36,7 +35,7 @@ row_of c x = record { u = x.u; v = x.v; l1 = x.l1; l2 = x.l2; s = x.s; r = x.r; 
 
 -- the row that makes c after some rows, by the first valid choice
 unfoldable pub row_for : ℕ → List Row → ℕ → Option Row
-row_for L before c = and_then (choice_for L (ready before) c) (λ x. some (row_of c x))
+row_for L before c = option_map (row_of c) (choice_for L (ready before) c)
 
 -- the wanted constants that are not ready
 unfoldable pub remaining : List ℕ → List ℕ → List ℕ
@@ -45,7 +44,7 @@ remaining vals (c ∷ cs) = cond (has vals c) (remaining vals cs) (c ∷ remaini
 
 -- A: the row of the smallest at distance 1
 unfoldable pub rule_a : ℕ → List Row → List ℕ → Option (List Row)
-rule_a L before cs = first_some (λ c. and_then (row_for L before c) (λ x. some (x ∷ []))) cs
+rule_a L before cs = first_some (λ c. option_map (λ x. x ∷ []) (row_for L before c)) cs
 
 -- what step B tries: constants ascending, and for each the candidates s ascending
 unfoldable pub trials : ℕ → List ℕ → List (ℕ × ℕ)
@@ -55,7 +54,7 @@ trials L (c ∷ cs) = map (λ s. (c, s)) (candidates L) ++ trials L cs
 -- the rows of s and then of c, if s serves c
 unfoldable pub serve : ℕ → List Row → ℕ × ℕ → Option (List Row)
 serve L before p =
-    and_then (row_for L before p.1) (λ x. and_then (row_for L (before ++ (x ∷ [])) p.0) (λ y. some (x ∷ y ∷ [])))
+    option_and_then (λ x. option_map (λ y. x ∷ y ∷ []) (row_for L (before ++ (x ∷ [])) p.0)) (row_for L before p.1)
 
 -- B: the smallest constant at distance 2, by the smallest s that serves
 unfoldable pub rule_b : ℕ → List Row → List ℕ → Option (List Row)
@@ -70,14 +69,10 @@ rule_c before [] = []
 rule_c before (p ∷ ps) =
     cond (has (ready before) p.value) (rule_c before ps) (prefix_row before p ∷ rule_c (before ++ (prefix_row before p ∷ [])) ps)
 
-unfoldable pub or_else : Option (List Row) → List Row → List Row
-or_else none other = other
-or_else (some new) other = new
-
 -- the rows that a turn adds for the constants that remain, ascending: by A, else B, else C for the smallest
 unfoldable pub added : ℕ → List Row → List ℕ → List Row
 added L before [] = []
-added L before (c ∷ cs) = or_else (rule_a L before (c ∷ cs)) (or_else (rule_b L before (c ∷ cs)) (rule_c before (prefixes c)))
+added L before (c ∷ cs) = unwrap_or (rule_a L before (c ∷ cs)) (unwrap_or (rule_b L before (c ∷ cs)) (rule_c before (prefixes c)))
 
 -- what a turn hands on: the rows that are drawn
 pub record Draft : Type 0 where

@@ -8,13 +8,13 @@ use native.Mathlib.Omega.{arith}
 use lib.IntN.{pos, +ℤ_invr}
 use Rattle.meaning.specs.declared.Refusal.TheVariants as no
 use Rattle.meaning.specs.declared.Row.{Row}
-use Rattle.meaning.specs.Basics.{index_from, sum_of, first_some, and_then, zeros_in, zeros}
+use Rattle.meaning.specs.Basics.{index_from, sum_of, first_some, zeros_in, zeros}
 use Rattle.meaning.specs.Constants.{apart, insert, wanted}
 use Rattle.meaning.specs.Operation.{whole, Valid, is_outcome, is_valid, operated, operated_under}
 use Rattle.meaning.specs.Graph.{rows, does_fit, output_index}
 use Rattle.meaning.specs.Distance.{does_give, shift_pairs, is_one_op, does_reach, does_serve, candidates, distance}
 use Rattle.meaning.specs.Digits.{nonzeros, digits_in, canonic, prefixes_from, prefixes}
-use Rattle.meaning.specs.Generator.{chosen, choice_for, row_for, remaining, rule_a, trials, serve, rule_b, rule_c, or_else, added, turn, turns, generated}
+use Rattle.meaning.specs.Generator.{chosen, choice_for, row_for, remaining, rule_a, trials, serve, rule_b, rule_c, added, turn, turns, generated}
 use Rattle.meaning.specs.Products.{row_product, products_from, products, target_product, target_products}
 use Rattle.meaning.specs.Widths.{least_from, extra_bits, place, ranked_from, ranking}
 use Rattle.meaning.specs.Refusals.{Answer, need_each, valid_rows, all_served, first_of, admitted, checked, distance_told}
@@ -59,11 +59,11 @@ never L u r c k = let h = k.outcome.nonzero in omega arith
 
 -- the sample, by computation
 sample_text : job_text sample_job ≡ sample_listing
-unfolding index_from sum_of first_some and_then zeros_in zeros apart insert wanted is_outcome is_valid output_index does_give shift_pairs nonzeros digits_in canonic chosen choice_for row_for remaining rule_a or_else added turn turns generated least_from extra_bits place ranked_from ranking need_each stands unsigned_at number_at unsigned_text line_of lines_of line_at report_at numbers targets_at job_of head_text row_numbers out_numbers outs_from listing_of listing reply_to job_text
+unfolding index_from sum_of first_some zeros_in zeros apart insert wanted is_outcome is_valid output_index does_give shift_pairs nonzeros digits_in canonic chosen choice_for row_for remaining rule_a added turn turns generated least_from extra_bits place ranked_from ranking need_each stands unsigned_at number_at unsigned_text line_of lines_of line_at report_at numbers targets_at job_of head_text row_numbers out_numbers outs_from listing_of listing reply_to job_text
 sample_text = refl
 
 pub examples : Examples
-unfolding index_from sum_of first_some and_then zeros_in zeros apart insert wanted is_outcome is_valid operated operated_under rows does_fit output_index does_give shift_pairs is_one_op does_reach does_serve candidates distance nonzeros digits_in canonic prefixes_from prefixes chosen choice_for row_for remaining rule_a trials serve rule_b rule_c or_else added turn turns generated row_product products_from products target_product target_products least_from extra_bits place ranked_from ranking need_each admitted distance_told
+unfolding index_from sum_of first_some zeros_in zeros apart insert wanted is_outcome is_valid operated operated_under rows does_fit output_index does_give shift_pairs is_one_op does_reach does_serve candidates distance nonzeros digits_in canonic prefixes_from prefixes chosen choice_for row_for remaining rule_a trials serve rule_b rule_c added turn turns generated row_product products_from products target_product target_products least_from extra_bits place ranked_from ranking need_each admitted distance_told
 examples =
     record {
       p1 = refl;

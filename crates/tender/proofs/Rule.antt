@@ -3,8 +3,7 @@ use mathlib.Core.Path.{◌≡◌, refl, sym, ap, ◌∙◌, subst, subst⁻¹}
 use mathlib.Core.Bool.{Bool, true, false, cond}
 use mathlib.Core.List.{List, [], ◌∷◌, ◌++◌, append-nil, append_assoc, Memᴰ}
 use mathlib.Core.Logic.{◌⊎◌, inl, inr, ⊎_elim}
-use mathlib.Core.Option.{some}
-use mathlib.Core.Option as option
+use Rattle.std.specs.Prelude.{Some, None}
 use Prim.Native.Nat.{ℕ, zero, suc, ◌+◌, ◌-◌, ◌*◌, ◌^◌, ◌≤◌, ◌<◌}
 use native.Mathlib.Numerals.{add-one}
 use native.Mathlib.Omega.{arith}
@@ -39,7 +38,7 @@ use Rattle.tender.proofs.Reach.{wanted_are, of_one, of_two}
 
 -- ---- the row of a value
 
-first_choice : (b : ℕ) (before : List Row) (c : ℕ) (x : Row) → row_for (limit b) before c ≡ some x → FirstChoice b before x
+first_choice : (b : ℕ) (before : List Row) (c : ℕ) (x : Row) → row_for (limit b) before c ≡ Some x → FirstChoice b before x
 first_choice b before c x e =
     let (q, f) = row_from (limit b) before c x e in
     let k = row_first (limit b) before c x e in
@@ -124,7 +123,7 @@ module _ (b : ℕ) (ts : List ℤ) (before : List Row) (cs : List ℕ) (left : r
   ascending : Ascending cs
   ascending = subst Ascending left (remaining_ascending (ready_after before) (wanted ts) (wanted_ascending ts))
 
-  step_a : (new : List Row) → rule_a (limit b) before cs ≡ some new → StepA b ts before new
+  step_a : (new : List Row) → rule_a (limit b) before cs ≡ Some new → StepA b ts before new
   step_a new e =
       let k = a_least (limit b) before cs new ascending e in
       let q = (row_from (limit b) before k.which k.row k.by).0 in
@@ -136,11 +135,11 @@ module _ (b : ℕ) (ts : List ℤ) (before : List Row) (cs : List ℕ) (left : r
         adds = k.are;
       }
 
-  module _ (n : rule_a (limit b) before cs ≡ option.none) where
+  module _ (n : rule_a (limit b) before cs ≡ None) where
     none_at_1 : (c : ℕ) → Remains ts before c → ¬ (ByOne b (ready_after before) c)
     none_at_1 c r o = a_none (limit b) before cs n c (of_remains c r) (of_one b (ready_after before) c o)
 
-    step_b : (new : List Row) → rule_b (limit b) before cs ≡ some new → StepB b ts before new
+    step_b : (new : List Row) → rule_b (limit b) before cs ≡ Some new → StepB b ts before new
     step_b new e =
         let k = b_least (limit b) before cs n new ascending e in
         let p = (row_from (limit b) before k.s k.first k.by_first).0 in
@@ -164,7 +163,7 @@ module _ (b : ℕ) (ts : List ℤ) (before : List Row) (cs : List ℕ) (left : r
         }
 
 module _ (b : ℕ) (ts : List ℤ) (before : List Row) (c : ℕ) (cs : List ℕ) (left : remaining (ready_after before) (wanted ts) ≡ c ∷ cs) where
-  step_c : rule_a (limit b) before (c ∷ cs) ≡ option.none → rule_b (limit b) before (c ∷ cs) ≡ option.none → StepC b ts before (rule_c before (prefixes c))
+  step_c : rule_a (limit b) before (c ∷ cs) ≡ None → rule_b (limit b) before (c ∷ cs) ≡ None → StepC b ts before (rule_c before (prefixes c))
   unfolding prefixes Ordered
   step_c n e =
       record {

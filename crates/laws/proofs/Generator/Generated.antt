@@ -5,7 +5,7 @@ use mathlib.Core.Bool.{Bool, true, false, cond, ◌||◌}
 use mathlib.Core.List.Memᴰ
 use mathlib.Core.List.{List, [], ◌∷◌, ◌++◌, Memᴰ}
 use mathlib.Core.Logic.{⊎_elim}
-use mathlib.Core.Option.{some}
+use Rattle.std.specs.Prelude.{Some}
 use Prim.Native.Nat.{ℕ, zero, suc, ◌*◌, ◌≤◌}
 use native.Mathlib.Omega.{arith}
 use borrow.Author.Tests.{leb-false}
@@ -38,11 +38,11 @@ use Rattle.laws.proofs.Generator.Remaining.{remaining_in, none_yet, generated_fe
 
 -- ---- every row is valid
 
-sound_a : (L : ℕ) (before : List Row) (cs : List ℕ) (new : List Row) → rule_a L before cs ≡ some new → Sound L before new
+sound_a : (L : ℕ) (before : List Row) (cs : List ℕ) (new : List Row) → rule_a L before cs ≡ Some new → Sound L before new
 unfolding Sound
 sound_a L before cs new e = let k = a_from L before cs new e in subst⁻¹ (Sound L before) k.are (k.fits, tt)
 
-sound_b : (L : ℕ) (before : List Row) (cs : List ℕ) (new : List Row) → rule_b L before cs ≡ some new → Sound L before new
+sound_b : (L : ℕ) (before : List Row) (cs : List ℕ) (new : List Row) → rule_b L before cs ≡ Some new → Sound L before new
 unfolding Sound
 sound_b L before cs new e = let k = b_from L before cs new e in subst⁻¹ (Sound L before) k.are (k.first_fits, (k.second_fits, tt))
 

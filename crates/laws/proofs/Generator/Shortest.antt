@@ -2,7 +2,7 @@
 use mathlib.Core.Path.{◌≡◌, refl, sym, ap, ◌∙◌, subst, subst⁻¹}
 use mathlib.Core.List.{List, [], ◌∷◌, Memᴰ}
 use mathlib.Core.Logic.{⊎_elim}
-use mathlib.Core.Option.{some}
+use Rattle.std.specs.Prelude.{Some, is_some}
 use Prim.Native.Nat.{ℕ, ◌≤◌, ◌<◌}
 use native.Mathlib.Omega.{arith}
 use native.Mathlib.Decide.{ℕ_discrete}
@@ -24,7 +24,6 @@ use Rattle.laws.proofs.Graph.Rows.{length_rows}
 use Rattle.laws.proofs.Refusals.Checked.{good_of}
 use Rattle.laws.proofs.Lists.Has.{has_in}
 use Rattle.laws.proofs.Distance.Reach.{in_candidates, reach_is, reached_odd, reached_within}
-use Rattle.laws.proofs.Lists.First.{got}
 use Rattle.laws.proofs.Generator.Choices.{row_got, fits_reached, got_row}
 use Rattle.laws.proofs.Constants.Wanted.{Wanted, AllWanted, all_wanted, wanted_in}
 use Rattle.laws.proofs.Generator.Rules.{a_from, a_got, b_from, b_got, reach_front, added_by}
@@ -36,26 +35,26 @@ module _ (L c : ℕ) where
   abbrev drawn : List Row
   drawn = added L [] (c ∷ [])
 
-  a_length : (new : List Row) → rule_a L [] (c ∷ []) ≡ some new → length new ≡ 1
+  a_length : (new : List Row) → rule_a L [] (c ∷ []) ≡ Some new → length new ≡ 1
   a_length new e = ap length (a_from L [] (c ∷ []) new e).are
 
-  b_length : (new : List Row) → rule_b L [] (c ∷ []) ≡ some new → length new ≡ 2
+  b_length : (new : List Row) → rule_b L [] (c ∷ []) ≡ Some new → length new ≡ 2
   b_length new e = ap length (b_from L [] (c ∷ []) new e).are
 
-  turn_one : T (got (row_for L [] c)) → length drawn ≤ 1
+  turn_one : T (is_some (row_for L [] c)) → length drawn ≤ 1
   turn_one t =
       let g = a_got L [] (c ∷ []) c (mathlib.Core.List.Memᴰ.head refl) t in
       added_by (λ new. length new ≤ 1) L [] c []
       (λ new e. omega (arith, a_length new e))
-      (λ new e f. absurd (subst (λ o. T (got o)) e g))
-      (λ e f. absurd (subst (λ o. T (got o)) e g))
+      (λ new e f. absurd (subst (λ o. T (is_some o)) e g))
+      (λ e f. absurd (subst (λ o. T (is_some o)) e g))
 
-  turn_two : T (got (rule_b L [] (c ∷ []))) → length drawn ≤ 2
+  turn_two : T (is_some (rule_b L [] (c ∷ []))) → length drawn ≤ 2
   turn_two g =
       added_by (λ new. length new ≤ 2) L [] c []
       (λ new e. omega (arith, a_length new e))
       (λ new e f. omega (arith, b_length new f))
-      (λ e f. absurd (subst (λ o. T (got o)) f g))
+      (λ e f. absurd (subst (λ o. T (is_some o)) f g))
 
   turns_one : 1 < c → (turns L 1 (c ∷ []) none_yet).rows ≡ drawn
   unfolding turns turn remaining
@@ -64,7 +63,7 @@ module _ (L c : ℕ) where
   -- ---- against a graph of one row, and of two
 
   one_row_lem : (x : Row) → Fits L [] x → x.value ≡ c → length drawn ≤ 1
-  one_row_lem x f e = turn_one (subst (λ z. T (got (row_for L [] z))) e (row_got L [] x f))
+  one_row_lem x f e = turn_one (subst (λ z. T (is_some (row_for L [] z))) e (row_got L [] x f))
 
   two_rows : (x y : Row) → Fits L [] x → Fits L (x ∷ []) y → y.value ≡ c → length drawn ≤ 2
   two_rows x y f g e = go (ℕ_discrete x.value 1)

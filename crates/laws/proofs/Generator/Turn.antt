@@ -3,7 +3,7 @@ use mathlib.Core.Path.{◌≡◌, refl, sym, subst, subst⁻¹}
 use mathlib.Core.Bool.{Bool, true, false, cond}
 use mathlib.Core.List.Memᴰ
 use mathlib.Core.List.{List, [], ◌∷◌, ◌++◌, append_assoc, append-nil, Memᴰ}
-use mathlib.Core.Option.{some, none}
+use Rattle.std.specs.Prelude.{Some, None, is_some}
 use Prim.Native.Nat.{ℕ, suc, ◌≤◌, ◌<◌}
 use native.Mathlib.Omega.{arith}
 use lib.Dec.{T}
@@ -20,7 +20,6 @@ use Rattle.laws.proofs.Lists.Tests.{T_of}
 use Rattle.laws.proofs.Graph.Rows.{ready_append}
 use Rattle.laws.proofs.Digits.Chain.{Chain, chain_is, length_prefixes, PrefixRow, prefix_row_lem}
 use Rattle.laws.proofs.Lists.Has.{in_has, has_in}
-use Rattle.laws.proofs.Lists.First.{got}
 use Rattle.laws.proofs.Generator.Choices.{row_got}
 use Rattle.laws.proofs.Constants.Wanted.{Wanted, AllWanted}
 use Rattle.laws.proofs.Generator.Rules.{a_from, a_got, b_from, added_by}
@@ -44,9 +43,9 @@ cost_one : (b c : ℕ) → Wanted b c → 1 ≤ cost c
 cost_one b c w = omega (arith, length_prefixes c, chain_some (prefixes c) c w.above (chain_is c w.odd))
 
 -- a constant with one prefix above 1 has a row on the input
-one_got : (b c : ℕ) (before : List Row) (p : Prefix) → p.before ≡ 1 → p.value ≡ c → PrefixRow b p → T (got (row_for (limit b) before c))
+one_got : (b c : ℕ) (before : List Row) (p : Prefix) → p.before ≡ 1 → p.value ≡ c → PrefixRow b p → T (is_some (row_for (limit b) before c))
 one_got b c before p e q r =
-    subst (λ z. T (got (row_for (limit b) before z))) q
+    subst (λ z. T (is_some (row_for (limit b) before z))) q
     (row_got (limit b) before (record { u = 0; v = 0; l1 = p.gap; l2 = 0; s = p.s; r = 0; value = p.value })
     (record {
       first = omega arith;
@@ -54,7 +53,7 @@ one_got b c before p e q r =
       operation = subst (λ z. Valid (limit b) z 1 p.gap 0 p.s 0 p.value) e r.valid;
     }))
 
-cost_two : (b c : ℕ) (before : List Row) → Wanted b c → (T (got (row_for (limit b) before c)) → ⊥) → 2 ≤ cost c
+cost_two : (b c : ℕ) (before : List Row) → Wanted b c → (T (is_some (row_for (limit b) before c)) → ⊥) → 2 ≤ cost c
 unfolding Chain
 cost_two b c before w n = omega (arith, length_prefixes c, go (prefixes c) (chain_is c w.odd) (λ p i. prefix_row_lem b c p w.odd w.below i))
   where
@@ -75,7 +74,7 @@ pub record Makes (before : List Row) (cs : List ℕ) (new : List Row) : Type 0 w
 pub made_new : (before new : List Row) (c : ℕ) → Memᴰ c (values new) → T (has (ready (before ++ new)) c)
 made_new before new c i = subst⁻¹ (λ l. T (has l c)) (ready_append before new) (has_right (ready before) (values new) c i)
 
-makes_a : (b : ℕ) (before : List Row) (cs : List ℕ) (new : List Row) → AllWanted b cs → rule_a (limit b) before cs ≡ some new → Makes before cs new
+makes_a : (b : ℕ) (before : List Row) (cs : List ℕ) (new : List Row) → AllWanted b cs → rule_a (limit b) before cs ≡ Some new → Makes before cs new
 makes_a b before cs new w e =
     let k = a_from (limit b) before cs new e in
     subst⁻¹ (Makes before cs) k.are
@@ -86,7 +85,7 @@ makes_a b before cs new w e =
       price = cost_one b k.which (w k.which k.is_in);
     })
 
-makes_b : (b : ℕ) (before : List Row) (cs : List ℕ) (new : List Row) → AllWanted b cs → rule_a (limit b) before cs ≡ none → rule_b (limit b) before cs ≡ some new
+makes_b : (b : ℕ) (before : List Row) (cs : List ℕ) (new : List Row) → AllWanted b cs → rule_a (limit b) before cs ≡ None → rule_b (limit b) before cs ≡ Some new
     → Makes before cs new
 makes_b b before cs new w n e =
     let k = b_from (limit b) before cs new e in
@@ -95,7 +94,7 @@ makes_b b before cs new w n e =
       which = k.which;
       is_in = k.is_in;
       made = made_new before (k.first ∷ k.second ∷ []) k.which (Memᴰ.tail (Memᴰ.head (sym k.makes)));
-      price = cost_two b k.which before (w k.which k.is_in) (λ t. subst (λ o. T (got o)) n (a_got (limit b) before cs k.which k.is_in t));
+      price = cost_two b k.which before (w k.which k.is_in) (λ t. subst (λ o. T (is_some o)) n (a_got (limit b) before cs k.which k.is_in t));
     })
 
 -- C: no more rows than prefixes, and the end of their chain is ready afterwards

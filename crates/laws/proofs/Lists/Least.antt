@@ -3,13 +3,13 @@ use mathlib.Core.Path.{◌≡◌, refl, sym, ◌∙◌, subst}
 use mathlib.Core.List.Memᴰ
 use mathlib.Core.List.{List, [], ◌∷◌, ◌++◌, map, Memᴰ}
 use mathlib.Core.Logic.{◌⊎◌, ⊎_elim}
-use mathlib.Core.Option.{Option, some, none}
+use Rattle.std.specs.Prelude.{Option, Some, None, is_some}
 use Prim.Native.Nat.{ℕ, zero, suc, ◌<◌}
 use native.Mathlib.Omega.{arith}
 use lib.Dec.{T}
 use Rattle.meaning.specs.Basics.{up_from, first_some}
 use Rattle.meaning.specs.Constants.{Ascending}
-use Rattle.laws.proofs.Lists.First.{got, first_none, first_some_lem}
+use Rattle.laws.proofs.Lists.First.{first_none, first_some_lem}
 use Rattle.laws.proofs.Lists.Tests.{up_in}
 
 -- no member is sooner than one that stands before it, or than itself
@@ -25,25 +25,25 @@ Lex p q = (p.0 < q.0) ⊎ ((p.0 ≡ q.0) × (p.1 < q.1))
 pub record Least {A B : Type 0} (S : A → A → Type 0) (f : A → Option B) (xs : List A) (b : B) : Type 0 where
   pub at : A
   pub is_in : Memᴰ at xs
-  pub gives : f at ≡ some b
-  pub least : (y : A) → Memᴰ y xs → T (got (f y)) → ¬ (S y at)
+  pub gives : f at ≡ Some b
+  pub least : (y : A) → Memᴰ y xs → T (is_some (f y)) → ¬ (S y at)
 
 module _ {A B : Type 0} (S : A → A → Type 0) (f : A → Option B) where
-  pub first_least : (xs : List A) (b : B) → Ordered S xs → first_some f xs ≡ some b → Least S f xs b
+  pub first_least : (xs : List A) (b : B) → Ordered S xs → first_some f xs ≡ Some b → Least S f xs b
   unfolding Ordered
   first_least [] b o e = unfold first_some in absurd (let z : ◌≡◌ {A = ℕ} 0 1 = cc in omega arith)
   first_least (x ∷ xs) b o e = go (f x) refl (λ q. first_least xs b o.1 q)
     where
-      go : (r : Option B) → f x ≡ r → (first_some f xs ≡ some b → Least S f xs b) → Least S f (x ∷ xs) b
-      go none p rest =
+      go : (r : Option B) → f x ≡ r → (first_some f xs ≡ Some b → Least S f xs b) → Least S f (x ∷ xs) b
+      go None p rest =
           let k = rest (sym (first_none f x xs p) ∙ e) in
           record {
             at = k.at;
             is_in = Memᴰ.tail k.is_in;
             gives = k.gives;
-            least = λ y i t s. ⊎_elim (λ q. subst (λ r. T (got r)) p (subst (λ z. T (got (f z))) q t)) (λ j. k.least y j t s) (Memᴰ.cases_cons i);
+            least = λ y i t s. ⊎_elim (λ q. subst (λ r. T (is_some r)) p (subst (λ z. T (is_some (f z))) q t)) (λ j. k.least y j t s) (Memᴰ.cases_cons i);
           }
-      go (some c) p rest =
+      go (Some c) p rest =
           record { at = x; is_in = Memᴰ.head refl; gives = p ∙ sym (first_some_lem f x xs c p) ∙ e; least = λ y i t. o.0 y i }
 
 -- ---- lists that are in order
