@@ -1,64 +1,23 @@
--- The candidates in their order: the first k of them, and where a search among them stands. Assumes nothing.
-use mathlib.Core.Path.{◌≡◌, refl, sym, ap, ap₂, subst, ◌∙◌}
+-- The candidates in their order: the first k of them, and what a search among them finds. Assumes nothing.
+use mathlib.Core.Path.{◌≡◌, refl, sym, ap, ◌∙◌}
+use mathlib.Core.Bool.{Bool, true, false}
 use mathlib.Core.List.{List, [], ◌∷◌, map}
-use mathlib.Core.Option.{Option, some, none}
-use Prim.Native.Nat.{ℕ, zero, suc, ◌+◌, ◌-◌, ◌*◌, ◌^◌, ◌≤◌, ◌<◌, min}
+use Prim.Native.Nat.{ℕ, zero, suc, ◌+◌, ◌-◌, ◌*◌, ◌/◌, ◌%◌, ◌^◌, ◌≤◌, ◌<◌, min}
 use native.Mathlib.Nat.{pow-succ'}
-use native.Mathlib.Numerals.{add-one}
 use native.Mathlib.Omega.{arith}
-use lib.ListN.{take}
+use lib.ListN.{length, get_or, take}
+use Rattle.std.proofs.lemmas.List.{length-map}
 use lib.Pow.{pow_pos}
-use Rattle.meaning.specs.Basics.{up_from, first_some}
+use Rattle.std.specs.Prelude.{Some, None, find}
+use Rattle.std.specs.List.{position_or_len, slice_get}
+use Rattle.std.proofs.lemmas.List.Folds.{find_at}
+use Rattle.std.proofs.lemmas.List.Sums.{position_or_len_is}
+use Rattle.std.proofs.lemmas.Option.{slice_get_past, slice_get-get_or}
+use Rattle.meaning.specs.Basics.{up_from}
 use Rattle.meaning.specs.Distance.{candidates}
-use Rattle.laws.proofs.Lists.First.{first_none, first_some_lem, up_split}
-use Rattle.search.specs.declared.serving.Trials.TheVariants.{At, Nothing}
-use Rattle.search.specs.Choices.{used, pick}
-use Rattle.search.proofs.Scan.{used_none, used_some}
-
--- ---- a search over 1 .. e - 1
-
--- where the scan stands: at k, after t trials, of 1 .. e - 1
-pub record Scan (f : ℕ → Option ℕ) (e k t : ℕ) : Type 0 where
-  pub from : 1 ≤ k
-  pub to : k ≤ e
-  pub counted : t + 1 ≡ k
-  pub first : first_some f (up_from 1 (e - 1)) ≡ first_some f (up_from k (e - k))
-  pub uses : used f (up_from 1 (e - 1)) ≡ t + used f (up_from k (e - k))
-
-module _ (f : ℕ → Option ℕ) (e : ℕ) where
-  pub scan_start : 1 ≤ e → Scan f e 1 0
-  scan_start h = record { from = omega arith; to = h; counted = refl; first = refl; uses = omega arith }
-
-  pub scan_pass : (k t : ℕ) → Scan f e k t → k < e → f k ≡ none → Scan f e (k + 1) (t + 1)
-  scan_pass k t s h n =
-      let p = up_split k e h in
-      let u : used f (up_from k (e - k)) ≡ suc (used f (up_from (k + 1) (e - (k + 1)))) = ap (used f) p ∙ used_none f k _ n in
-      record {
-        from = omega arith;
-        to = omega arith;
-        counted = omega (arith, s.counted);
-        first = s.first ∙ ap (first_some f) p ∙ first_none f k _ n;
-        uses = omega (arith, s.uses);
-      }
-
-  pub scan_hit : (k t b : ℕ) → Scan f e k t → k < e → f k ≡ some b → At b (t + 1) ≡ pick (first_some f (up_from 1 (e - 1))) (used f (up_from 1 (e - 1)))
-  scan_hit k t b s h n =
-      let p = up_split k e h in
-      sym (ap₂ pick (s.first ∙ ap (first_some f) p ∙ first_some_lem f k _ b n) (s.uses ∙ ap (λ (x : ℕ). t + x) (ap (used f) p ∙ used_some f k _ b n)))
-
-  pub scan_end : (k t : ℕ) → Scan f e k t → e ≤ k → Nothing t ≡ pick (first_some f (up_from 1 (e - 1))) (used f (up_from 1 (e - 1)))
-  unfolding first_some used
-  scan_end k t s h =
-      let z : e - k ≡ 0 = omega arith in
-      let q : used f (up_from 1 (e - 1)) ≡ t = omega (arith, s.uses ∙ ap (λ (x : ℕ). t + used f (up_from k x)) z) in
-      sym (ap₂ pick (s.first ∙ ap (λ (x : ℕ). first_some f (up_from k x)) z) q)
-
-  -- over numbers that give nothing
-  pub scan_over : (n : ℕ) → n < e → ((j : ℕ) → 1 ≤ j → j < n + 1 → f j ≡ none) → Scan f e (n + 1) n
-  scan_over zero h clear = scan_start (omega arith)
-  scan_over (suc n) h clear =
-      subst (λ (x : ℕ). Scan f e (x + 1) x) (add-one n)
-      (scan_pass (n + 1) n (scan_over n (omega arith) (λ j l u. clear j l (omega arith))) (omega arith) (clear (n + 1) (omega arith) (omega arith)))
+use Rattle.laws.proofs.Lists.First.{up_length}
+use Rattle.laws.proofs.Lists.Index.{at_map}
+use Rattle.search.specs.Choices.{used}
 
 -- ---- the first k candidates
 
@@ -88,3 +47,49 @@ candidates_take k L e h =
 pub candidates_all : (k L : ℕ) → 2 ^ (L - 1) ≤ k + 1 → take k (candidates L) ≡ candidates L
 unfolding candidates
 candidates_all k L h = candidates_take k L (2 ^ (L - 1)) (omega arith)
+
+-- ---- a search among the first candidates
+
+-- the odd numbers from 3 on below 2 * e
+abbrev pub below : ℕ → List ℕ
+below e = map (λ j. 2 * j + 1) (up_from 1 (e - 1))
+
+at_up : (k n i d : ℕ) → i < n → get_or (up_from k n) i d ≡ k + i
+at_up k zero i d h = absurd (omega arith)
+at_up k (suc n) zero d h = omega arith
+at_up k (suc n) (suc i) d h = omega (arith, at_up (suc k) n i d (omega arith))
+
+module _ (t : ℕ → Bool) (e : ℕ) where
+  below_length : length (below e) ≡ e - 1
+  below_length = length-map (up_from 1 (e - 1)) (λ j. 2 * j + 1) ∙ up_length 1 (e - 1)
+
+  below_at : (i : ℕ) → i < e - 1 → get_or (below e) i 0 ≡ 2 * (i + 1) + 1
+  below_at i h =
+      let a = at_up 1 (e - 1) i 0 h in
+      at_map (λ j. 2 * j + 1) (up_from 1 (e - 1)) i 0 0 (omega (arith, up_length 1 (e - 1))) ∙ omega arith
+
+  first_at : (i : ℕ) → i ≤ e - 1 → ((j : ℕ) → 1 ≤ j → j ≤ i → t (2 * j + 1) ≡ false) → (i < e - 1 → t (2 * (i + 1) + 1) ≡ true) → position_or_len t (below e) ≡ i
+  first_at i h miss hit =
+      position_or_len_is t (below e) i 0 (omega (arith, below_length))
+      (λ k l. ap t (below_at k (omega arith)) ∙ miss (k + 1) (omega arith) (omega arith))
+      (λ l. let m : i < e - 1 = omega (arith, below_length) in ap t (below_at i m) ∙ hit m)
+
+  -- the first that passes, and the half of it
+  pub below_hit : (s : ℕ) → s % 2 ≡ 1 → 3 ≤ s → s < 2 * e → t s ≡ true → ((j : ℕ) → 1 ≤ j → 2 * j + 1 < s → t (2 * j + 1) ≡ false)
+      → (find t (below e) ≡ Some s) × (used t (below e) ≡ s / 2)
+  below_hit s o h l q miss =
+      let i : ℕ = s / 2 - 1 in
+      let m : i < e - 1 = omega arith in
+      let same : 2 * (i + 1) + 1 ≡ s = omega arith in
+      let p = first_at i (omega arith) (λ j a b. miss j a (omega arith)) (λ _. ap t same ∙ q) in (
+        find_at t (below e) ∙ ap (slice_get (below e)) p ∙ slice_get-get_or (below e) i 0 (omega (arith, below_length)) ∙ ap Some (below_at i m ∙ same),
+        omega (arith, p, below_length),
+      )
+
+  -- none passes
+  pub below_miss : 1 ≤ e → ((j : ℕ) → 1 ≤ j → j < e → t (2 * j + 1) ≡ false) → (find t (below e) ≡ None) × (used t (below e) ≡ e - 1)
+  below_miss h miss =
+      let p = first_at (e - 1) (omega arith) (λ j a b. miss j a (omega arith)) (λ l. absurd (omega arith)) in (
+        find_at t (below e) ∙ ap (slice_get (below e)) p ∙ slice_get_past (below e) (e - 1) (omega (arith, below_length)),
+        omega (arith, p, below_length),
+      )

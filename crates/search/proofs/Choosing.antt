@@ -1,32 +1,31 @@
 -- The least value that is reached and gives the constant is step B's choice, and there is one exactly if the distance is 2. Assumes nothing.
-use mathlib.Core.Path.{◌≡◌, sym, ap, ap₂, subst, ◌∙◌}
+use mathlib.Core.Path.{◌≡◌, sym, ap, ap₂, subst, subst⁻¹, ◌∙◌}
 use mathlib.Core.Bool.{Bool, true, false, ◌||◌, ◌&&◌, cond}
 use mathlib.Core.List.Memᴰ
 use mathlib.Core.List.{List, [], ◌∷◌, Memᴰ}
 use mathlib.Core.Logic.{⊎_elim}
-use mathlib.Core.Option.{Option, some, none}
+use Rattle.std.specs.Prelude.{Option, Some, None, All, find}
+use Rattle.std.proofs.lemmas.List.Elements.{All-from_get_or}
 use Prim.Native.Nat.{ℕ, zero, suc, ◌+◌, ◌-◌, ◌*◌, ◌/◌, ◌%◌, ◌^◌, ◌≤◌, ◌<◌, min}
 use native.Mathlib.Decide.{dec_le}
 use native.Mathlib.Omega.{arith}
 use lib.Dec.{T, ltb, ltb→lt, lt→ltb}
-use lib.ListN.{get_or, take}
+use lib.ListN.{get_or, take, length-take}
+use lib.Seq.{get_or-take}
 use lib.Pow.{pow_pos}
-use Rattle.meaning.specs.Basics.{any, up_from, first_some}
+use Rattle.meaning.specs.Basics.{any}
 use Rattle.meaning.specs.Distance.{does_reach, does_serve, candidates}
 use Rattle.laws.proofs.Lists.Tests.{bool_ext, both_of, of_both, true_of, false_of, T_of}
 use Rattle.laws.proofs.Distance.Distances.{twice_is}
 use Rattle.laws.proofs.Distance.Reach.{reach_is, reached_odd}
-use Rattle.laws.proofs.Lists.First.{first_map}
 use Rattle.search.specs.Sides.{is_with, is_twice}
 use Rattle.meaning.specs.Operation.{Odd}
 use Rattle.search.specs.Marks.{marked, OddsIn, State}
 use Rattle.search.proofs.Marks.{reached_is}
 use Rattle.search.proofs.Serves.{AllOdd, some_bits, serves_is}
-use Rattle.search.specs.declared.serving.Trials.TheVariants.{At, Nothing}
-use Rattle.search.specs.Choices.{used, serving, pick, chosen_in}
+use Rattle.search.specs.Choices.{used, chosen_in}
 use Rattle.search.specs.Least.{Seen, Lowers}
-use Rattle.search.proofs.Scan.{used_map}
-use Rattle.search.proofs.Candidates.{scan_over, scan_hit, scan_end, half, candidates_take}
+use Rattle.search.proofs.Candidates.{half, candidates_take, below, below_hit, below_miss}
 
 -- ---- the ready values
 
@@ -35,6 +34,11 @@ mem_take xs zero u i = absurd (Memᴰ.not-nil i)
 mem_take [] (suc n) u i = absurd (Memᴰ.not-nil i)
 mem_take (x ∷ xs) (suc n) u i =
     ⊎_elim (λ e. (0, omega arith, e)) (λ j. let (k, h, e) = mem_take xs n u j in (suc k, omega arith, e)) (Memᴰ.cases_cons i)
+
+-- the first n are odd, each of them
+pub odds_taken : (L : ℕ) (xs : List ℕ) (n : ℕ) → OddsIn L xs n → All (Odd L) (take n xs)
+odds_taken L xs n r =
+    All-from_get_or (Odd L) (take n xs) 0 (λ i h. let l : i < n = omega (arith, length-take n xs) in subst⁻¹ (Odd L) (get_or-take n xs i 0 l) (r.1 i l))
 
 pub take_odd : (L : ℕ) (xs : List ℕ) (n : ℕ) → OddsIn L xs n → AllOdd L (take n xs)
 take_odd L xs n r u i =
@@ -68,46 +72,32 @@ module _ (L : ℕ) (map vals : List ℕ) (n c : ℕ) (st : State L map vals n) (
   -- ---- the choice
 
   module _ (lim e best : ℕ) (last : e ≡ min (2 ^ (L - 1)) (lim + 1)) (x : Lowers map 3 (is_partner L (take n vals) c) (2 * e) best) where
-    abbrev probe : ℕ → Option ℕ
-    probe k = serving L (take n vals) c (2 * k + 1)
+    abbrev serves : ℕ → Bool
+    serves = does_serve L (take n vals) c
 
-    chosen_is : pick (first_some probe (up_from 1 (e - 1))) (used probe (up_from 1 (e - 1))) ≡ chosen_in L (take n vals) c lim
+    chosen_is : record { value = find serves (below e); tried = used serves (below e) } ≡ chosen_in L (take n vals) c lim
     unfolding chosen_in
-    chosen_is =
-        ap₂ pick
-        (sym (first_map (serving L (take n vals) c) (λ k. 2 * k + 1) (up_from 1 (e - 1)))
-        ∙ ap (first_some (serving L (take n vals) c)) (sym (candidates_take lim L e last)))
-        (sym (used_map (serving L (take n vals) c) (λ k. 2 * k + 1) (up_from 1 (e - 1)))
-        ∙ ap (used (serving L (take n vals) c)) (sym (candidates_take lim L e last)))
+    chosen_is = ap (λ (xs : List ℕ). record { value = find serves xs; tried = used serves xs }) (sym (candidates_take lim L e last))
 
-    miss : (j : ℕ) → 1 ≤ j → 2 * j + 1 < best → probe j ≡ none
+    miss : (j : ℕ) → 1 ≤ j → 2 * j + 1 < best → serves (2 * j + 1) ≡ false
     miss j l u =
         let w = half L (some_bits L c oc) in
         let b = x.least in
         let o : Odd L (2 * j + 1) = (omega arith, omega arith) in
-        ap (λ (t : Bool). cond t (some (2 * j + 1)) none)
-        (false_of (does_serve L (take n vals) c (2 * j + 1)) (λ t. x.none_below (2 * j + 1) u (seen 3 (2 * j + 1) o (omega arith) t)))
+        false_of (serves (2 * j + 1)) (λ t. x.none_below (2 * j + 1) u (seen 3 (2 * j + 1) o (omega arith) t))
 
-    pub choice_at : best < 2 * e → At best (best / 2) ≡ chosen_in L (take n vals) c lim
+    pub choice_at : best < 2 * e → record { value = Some best; tried = best / 2 } ≡ chosen_in L (take n vals) c lim
     choice_at h =
         let p = x.found h in
         let w = half L (some_bits L c oc) in
-        let low = p.from in
-        let odd = p.odd in
-        let t : ℕ = best / 2 - 1 in
-        let k : t + 1 ≡ best / 2 = omega arith in
-        let s : 2 * (t + 1) + 1 ≡ best = omega arith in
-        let y : probe (t + 1) ≡ some best =
-        ap (serving L (take n vals) c) s ∙ ap (λ (b : Bool). cond b (some best) none) (hit 3 best (omega arith) p) in
-        ap (At best) (sym k)
-        ∙ scan_hit probe e (t + 1) t best (scan_over probe e t (omega arith) (λ j l u. miss j l (omega arith))) (omega arith) y
-        ∙ chosen_is
+        let q = below_hit serves e best p.odd p.from h (hit 3 best (omega arith) p) miss in
+        ap₂ (λ (v : Option ℕ) (t : ℕ). record { value = v; tried = t }) (sym q.0) (sym q.1) ∙ chosen_is
 
-    pub choice_nothing : 2 * e ≤ best → Nothing (e - 1) ≡ chosen_in L (take n vals) c lim
+    pub choice_nothing : 2 * e ≤ best → record { value = None; tried = e - 1 } ≡ chosen_in L (take n vals) c lim
     choice_nothing h =
-        let q = pow_pos (L - 1) in
-        scan_end probe e (e - 1 + 1) (e - 1) (scan_over probe e (e - 1) (omega arith) (λ j l u. miss j l (omega arith))) (omega arith)
-        ∙ chosen_is
+        let w = pow_pos (L - 1) in
+        let q = below_miss serves e (omega arith) (λ j l u. miss j l (omega arith)) in
+        ap₂ (λ (v : Option ℕ) (t : ℕ). record { value = v; tried = t }) (sym q.0) (sym q.1) ∙ chosen_is
 
   -- ---- distance 2
 

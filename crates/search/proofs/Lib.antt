@@ -7,4 +7,3 @@ pub mod Candidates
 pub mod Choosing
 pub mod Least
 pub mod RuleB
-pub mod Scan

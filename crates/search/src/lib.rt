@@ -11,11 +11,11 @@ pub const LONG_MAP: usize = 65536;
 
 const SHORT_LIMIT: u32 = 13;
 
-ghost use Rattle.std.specs.Prelude.{◌≡◌, [], ◌∷◌, ◌++◌, ◌+◌, leb, length, take};
+ghost use Rattle.std.specs.Prelude.{◌≡◌, [], ◌∷◌, ◌++◌, ◌+◌, leb, length, take, All};
 ghost use Rattle.meaning.specs.Distance.{is_one_op, does_reach};
 ghost use Rattle.search.specs.Sides.{does_hit, is_side_to, is_with};
 ghost use Rattle.meaning.specs.Operation.{Odd};
-ghost use Rattle.search.specs.Marks.{Holds, Adds, marked, short_limit, Wide, OddsIn, State};
+ghost use Rattle.search.specs.Marks.{Holds, Adds, marked, short_limit, Wide, State};
 
 // n without its trailing zeros is marked, if that is below 2^limit.
 fn mark(map: &mut [u8], limit: u32, n: u64)
@@ -40,15 +40,13 @@ fn side(map: &mut [u8], limit: u32, u: u32, v: u32)
 {
     let a = u as u64;
     let far = a + arith::power(limit);
-    let mut l: u32 = 0;
-    while l <= limit {
+    for l in 0..limit + 1 {
         let w = arith::shifted(v, l);
         if w >= far {
             return;
         }
         mark(map, limit, a + w);
         mark(map, limit, arith::difference(a, w));
-        l += 1;
     }
 }
 
@@ -62,14 +60,12 @@ fn pair(map: &mut [u8], limit: u32, u: u32, v: u32)
 }
 
 // All results of operations on v and each ready value are marked.
-fn with_each(map: &mut [u8], limit: u32, ready: &[u32], n: usize, v: u32)
-    requires { Wide limit map.old × OddsIn limit ready.now n × Odd limit v }
-    ensures { Adds map.old map.new (λ c. is_with limit v (take n ready.now) c) }
+fn with_each(map: &mut [u8], limit: u32, ready: &[u32], v: u32)
+    requires { Wide limit map.old × All (Odd limit) ready.now × Odd limit v }
+    ensures { Adds map.old map.new (λ c. is_with limit v ready.now c) }
 {
-    let mut i = 0;
-    while i < n {
-        pair(map, limit, v, ready[i]);
-        i += 1;
+    for u in ready {
+        pair(map, limit, v, *u);
     }
 }
 
@@ -79,7 +75,7 @@ pub fn add(map: &mut [u8], limit: u32, ready: &[u32], n: usize, v: u32)
     ensures map_len_unchanged { length map.new ≡ length map.old }
     ensures holds { Holds map.new (λ c. does_reach limit (take n ready.now ++ (v ∷ [])) c) }
 {
-    with_each(map, limit, ready, n, v);
+    with_each(map, limit, &ready[..n], v);
     side(map, limit, v, v);
 }
 

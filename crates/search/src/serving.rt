@@ -10,11 +10,11 @@ ghost use Rattle.search.specs.Marks.{Wide, State};
 ghost use Rattle.search.specs.Choices.{chosen_in};
 ghost use Rattle.search.specs.Least.{Lowers, Looking, LookingAll};
 
-// The smallest value that serves and the candidates tried, or only these.
+// The smallest value that serves, if one does, and how many candidates were tried.
 #[derive(Clone, Copy)]
-pub enum Trials {
-    At { s: u32, tried: u32 },
-    Nothing { tried: u32 },
+pub struct Trials {
+    pub value: Option<u32>,
+    pub tried: u32,
 }
 
 // m, if it is marked, not below low and below best; otherwise best.
@@ -54,15 +54,13 @@ fn look_side(map: &[u8], limit: u32, u: u32, v: u32, low: u32, best: u32) -> u32
     let a = u as u64;
     let far = a + arith::power(limit);
     let mut least = best;
-    let mut l: u32 = 0;
-    while l <= limit {
+    for l in 0..limit + 1 {
         let w = arith::shifted(v, l);
         if w >= far {
             return least;
         }
         least = look(map, limit, a + w, low, least);
         least = look(map, limit, arith::difference(a, w), low, least);
-        l += 1;
     }
     least
 }
@@ -77,15 +75,13 @@ fn look_pair(map: &[u8], limit: u32, u: u32, v: u32, low: u32, best: u32) -> u32
 }
 
 // The same for all results of operations on c and each ready value.
-fn look_each(map: &[u8], limit: u32, ready: &[u32], n: usize, c: u32, low: u32, best: u32) -> u32
-    requires { LookingAll limit map.now ready.now n c best }
-    ensures { Lowers map.now low (λ s. is_with limit c (take n ready.now) s) best result }
+fn look_each(map: &[u8], limit: u32, ready: &[u32], c: u32, low: u32, best: u32) -> u32
+    requires { LookingAll limit map.now ready.now c best }
+    ensures { Lowers map.now low (λ s. is_with limit c ready.now s) best result }
 {
     let mut least = best;
-    let mut i = 0;
-    while i < n {
-        least = look_pair(map, limit, c, ready[i], low, least);
-        i += 1;
+    for u in ready {
+        least = look_pair(map, limit, c, *u, low, least);
     }
     least
 }
@@ -108,31 +104,21 @@ fn look_twice(map: &[u8], limit: u32, c: u32, low: u32, best: u32) -> u32
 {
     let d = c as u64;
     let mut least = best;
-    let mut l: u32 = 0;
-    while l < limit {
+    for l in 0..limit {
         let p = arith::power(l + 1);
         least = look_factor(map, d, p - 1, low, least);
         least = look_factor(map, d, p + 1, low, least);
-        l += 1;
     }
     least
 }
 
 // The same for all values with which, added to the ready ones, one operation gives c: the operation is symmetric, so they are
 // what one operation on c and a ready value gives.
-fn least_partner(
-    map: &[u8],
-    limit: u32,
-    ready: &[u32],
-    n: usize,
-    c: u32,
-    low: u32,
-    best: u32,
-) -> u32
-    requires { LookingAll limit map.now ready.now n c best }
-    ensures { Lowers map.now low (λ s. is_with limit c (take n ready.now) s || is_twice limit c s) best result }
+fn least_partner(map: &[u8], limit: u32, ready: &[u32], c: u32, low: u32, best: u32) -> u32
+    requires { LookingAll limit map.now ready.now c best }
+    ensures { Lowers map.now low (λ s. is_with limit c ready.now s || is_twice limit c s) best result }
 {
-    let least = look_each(map, limit, ready, n, c, low, best);
+    let least = look_each(map, limit, ready, c, low, best);
     look_twice(map, limit, c, low, least)
 }
 
@@ -157,12 +143,17 @@ pub fn choose(map: &[u8], limit: u32, ready: &[u32], n: usize, c: u32, ceiling: 
 {
     let end = last(limit, ceiling);
     let bound = 2 * end;
-    let s = least_partner(map, limit, ready, n, c, 3, bound);
+    let s = least_partner(map, limit, &ready[..n], c, 3, bound);
     if s < bound {
-        return Trials::At { s: s, tried: s / 2 };
+        return Trials {
+            value: Some(s),
+            tried: s / 2,
+        };
     }
-    let tried = end - 1;
-    Trials::Nothing { tried: tried }
+    Trials {
+        value: None,
+        tried: end - 1,
+    }
 }
 
 // Some s that one operation on the ready values reaches is such that with it one operation gives c. A ready list need not
@@ -172,5 +163,5 @@ pub fn served(map: &[u8], limit: u32, ready: &[u32], n: usize, c: u32) -> bool
     ensures { result ≡ any (does_serve limit (take n ready.now) c) (1 ∷ candidates limit) }
 {
     let bound = arith::power(limit) as u32;
-    least_partner(map, limit, ready, n, c, 1, bound) < bound
+    least_partner(map, limit, &ready[..n], c, 1, bound) < bound
 }

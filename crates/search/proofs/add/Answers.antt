@@ -2,13 +2,14 @@
 -- itself. Assumes nothing.
 use mathlib.Core.Path.{◌∙◌}
 use lib.ListN.{take}
+use Rattle.search.proofs.Choosing.{odds_taken}
 use Rattle.search.proofs.Marks.{reach_more}
 use Rattle.search.proofs.add.Goals as goal
 
 pub with_each-requires : goal.with_each-requires
 with_each-requires c =
     let s = c.requires.0 in
-    (s.wide, s.values, c.requires.1)
+    (s.wide, odds_taken c.args.limit c.args.ready.now c.args.n s.values, c.requires.1)
 
 pub returns : goal.returns
 returns c =

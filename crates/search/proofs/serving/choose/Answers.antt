@@ -5,7 +5,7 @@ use native.Mathlib.Omega.{arith}
 use lib.Pow.{pow_pos, pow_mono}
 use Rattle.search.proofs.Serves.{some_bits}
 use Rattle.search.proofs.Candidates.{half}
-use Rattle.search.proofs.Choosing.{choice_at, choice_nothing}
+use Rattle.search.proofs.Choosing.{odds_taken, choice_at, choice_nothing}
 use Rattle.search.proofs.serving.choose.Goals as goal
 use Rattle.search.proofs.serving.choose.Goals.{After-last-end}
 
@@ -24,7 +24,7 @@ overflow_mul-bound c = record { fits = omega (arith, bounds c) }
 
 pub least_partner-s-requires : goal.least_partner-s-requires
 least_partner-s-requires c =
-    record { wide = c.requires.0.wide; ready = c.requires.0.values; constant = c.requires.1; known = (bounds c).0 }
+    record { wide = c.requires.0.wide; ready = odds_taken c.args.limit c.args.ready.now c.args.n c.requires.0.values; constant = c.requires.1; known = (bounds c).0 }
 
 pub returns-then-s-bound : goal.returns-then-s-bound
 returns-then-s-bound c =
@@ -33,8 +33,8 @@ returns-then-s-bound c =
     choice_at a.limit a.map.now a.ready.now a.n a.c c.requires.0 c.requires.1 c.requires.2
     a.ceiling c.last-end.result lp.result c.last-end.ensures lp.ensures c.if-s-bound.true
 
-pub overflow_sub-tried : goal.overflow_sub-tried
-overflow_sub-tried c =
+pub overflow_sub-result : goal.overflow_sub-result
+overflow_sub-result c =
     omega (arith, c.last-end.ensures, pow_pos (c.args.limit - 1))
 
 pub returns : goal.returns

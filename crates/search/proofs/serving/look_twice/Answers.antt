@@ -1,39 +1,19 @@
 -- `look_twice` meets its contract. The loop's invariant: the factors for the shifts 1 .. l are looked at. Assumes nothing.
-use mathlib.Core.Path.{◌≡◌, refl, ap, subst}
+use mathlib.Core.Path.{ap}
 use Prim.Native.Nat.{ℕ, ◌+◌, ◌-◌}
 use native.Mathlib.Omega.{arith}
-use Rattle.search.specs.Sides.{is_twice}
-use Rattle.search.specs.Least.{Lowers}
 use Rattle.search.proofs.Least.{twice_start, twice_more, power_two}
 use Rattle.search.proofs.serving.look_twice.Goals as goal
 
 pub loop-l-init : goal.loop-l-init
-loop-l-init c =
-    let a = c.args in
-    (omega arith, refl, twice_start a.c a.map.now a.low a.best)
-
-pub overflow_sub-p : goal.overflow_sub-p
-overflow_sub-p c = omega (arith, c.power-p.ensures, power_two c.loop-l.l)
+loop-l-init c = let a = c.args in twice_start a.c a.map.now a.low a.best
 
 pub look_factor-least-requires : goal.look_factor-least-requires
 look_factor-least-requires c =
-    (c.requires.1.0, omega (arith, c.power-p.ensures, power_two c.loop-l.l), omega (arith, c.requires, c.loop-l.invariant.2.least))
-
-pub look_factor-least-requires-in-loop-l : goal.look_factor-least-requires-in-loop-l
-look_factor-least-requires-in-loop-l c =
-    (c.requires.1.0, omega arith, omega (arith, c.requires, c.loop-l.invariant.2.least, c.look_factor-least.ensures.least))
+    (c.requires.1.0, omega (arith, c.power-p.ensures, power_two c.loop-l.l), omega (arith, c.requires, c.loop-l.invariant.least))
 
 pub loop-l-preserved : goal.loop-l-preserved
 loop-l-preserved c =
-    let a = c.args in (
-      omega (arith, c),
-      refl,
-      twice_more a.c a.map.now a.low c.loop-l.l _ _ (ap (λ (x : ℕ). x - 1) c.power-p.ensures.0) (ap (λ (x : ℕ). x + 1) c.power-p.ensures.0)
-          c.loop-l.invariant.2 c.look_factor-least.ensures c.look_factor-least-in-loop-l.ensures,
-    )
-
-pub returns : goal.returns
-returns c =
     let a = c.args in
-    let e : c.loop-l.l ≡ a.limit = omega arith in
-    subst (λ (l : ℕ). Lowers a.map.now a.low (λ s. is_twice l a.c s) a.best c.loop-l.least) e c.loop-l.invariant.2
+    twice_more a.c a.map.now a.low c.loop-l.l _ _ (ap (λ (x : ℕ). x - 1) c.power-p.ensures.0) (ap (λ (x : ℕ). x + 1) c.power-p.ensures.0)
+    c.loop-l.invariant c.look_factor-least.ensures c.look_factor-least-in-loop-l.ensures
