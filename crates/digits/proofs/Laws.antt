@@ -7,8 +7,8 @@ use native.Mathlib.Nat.{zero-div, div-le_self}
 use native.Mathlib.Omega.{arith}
 use borrow.Author.Tests.{eqb-true, eqb-false}
 use lib.Dec.{eqb}
-use lib.ListN.{length, drop, get_or, set, replicate, length-append, length-set, get_or-append}
-use lib.Seq.{lt-length-set, drop-cons, drop-set-lt, get_or-set_same, append_snoc}
+use lib.ListN.{length, take, drop, set, replicate, length-append, length-set}
+use lib.Seq.{lt-length-set, drop-cons, drop-set-lt, get_or-set_same, append_snoc, take-append_seam}
 use Rattle.meaning.specs.declared.Prefix.{Prefix}
 use Rattle.meaning.specs.Basics.{zeros}
 use Rattle.meaning.specs.Digits.{prefixes}
@@ -16,6 +16,7 @@ use Rattle.laws.proofs.Whole.Zeros.{zeros_left}
 use Rattle.laws.proofs.Digits.Prefixes.{peel_plus, peel_minus, prefixes_zero, prefixes_one, prefixes_odd}
 use Rattle.laws.proofs.Digits.Count.{few_seventeen}
 use Rattle.laws.proofs.Digits.Chain.{length_prefixes}
+use Rattle.digits.specs.declared.Prefixes.{Prefixes}
 use Rattle.digits.specs.Held.{nothing, held, prefixes_held, near, end_sign, odd_part, last_prefix}
 
 pub odd_zero : odd_part 0 ≡ 0
@@ -145,6 +146,6 @@ fill_end n left at count list f z k =
 
 -- ---- what a caller reads of the array
 
-pub held_at : (n i : ℕ) (d : Prefix) → i < length (prefixes n) → get_or (held (prefixes n)) i d ≡ get_or (prefixes n) i d
-unfolding held
-held_at n i d h = get_or-append (prefixes n) (replicate (16 - length (prefixes n)) nothing) d i h
+pub held_list : (r : Prefixes) (n : ℕ) → r ≡ prefixes_held n → take r.count r.list ≡ prefixes n
+unfolding prefixes_held held
+held_list r n e = ap (λ (p : Prefixes). take p.count p.list) e ∙ take-append_seam (prefixes n) (replicate (16 - length (prefixes n)) nothing)

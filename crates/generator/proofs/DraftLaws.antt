@@ -2,14 +2,13 @@
 use mathlib.Core.Path.{◌≡◌, refl, sym, ap, ap₂, ◌∙◌, subst, subst⁻¹}
 use mathlib.Core.Bool.{Bool, true, false}
 use mathlib.Core.List.{List, [], ◌∷◌, ◌++◌, append-nil, append_assoc, map-append}
-use mathlib.Core.Option.{Option, some, none}
+use Rattle.std.specs.Prelude.{option_map}
 use Prim.Native.Nat.{ℕ, ◌+◌, ◌-◌, ◌*◌, ◌≤◌, ◌<◌}
 use native.Mathlib.Omega.{arith}
 use lib.ListN.{length, length-append, get_or, take, drop}
-use Rattle.meaning.specs.declared.Choice.{Choice}
 use Rattle.meaning.specs.declared.Prefix.{Prefix}
 use Rattle.meaning.specs.declared.Row.{Row}
-use Rattle.meaning.specs.Basics.{has, and_then, over_at}
+use Rattle.meaning.specs.Basics.{has, over_at}
 use Rattle.meaning.specs.Graph.{row_length, words, rows, flat, values, ready}
 use Rattle.meaning.specs.Distance.{does_reach}
 use Rattle.meaning.specs.Generator.{choice_for, row_of, row_for, prefix_row, rule_c}
@@ -22,29 +21,12 @@ use Rattle.search.proofs.ReadyLaws.{grown_room}
 use Rattle.meaning.specs.Operation.{Odd}
 use Rattle.search.specs.Marks.{Holds, State}
 use Rattle.search.proofs.Marks.{include_is, one_map}
-use Rattle.generator.specs.Search.{found}
-use Rattle.generator.specs.declared.first_choice.Found.TheVariants.{At, Missing}
 use Rattle.generator.specs.Growth.{drawn_rows, Open, grown_by, Grown, prefix_rows}
 
--- ---- what was found
-
-pub missing_is : (o : Option Choice) → found o ≡ Missing → o ≡ none
-missing_is none e = refl
-missing_is (some x) e = absurd (let z : ◌≡◌ {A = ℕ} 0 1 = cc in omega arith)
-
-pub found_is : (o : Option Choice) (x : Choice) → found o ≡ At x → o ≡ some x
-found_is none x e = absurd (let z : ◌≡◌ {A = ℕ} 0 1 = cc in omega arith)
-found_is (some y) x e = cc
-
--- the row of the choice that was found on the values of some rows
-module _ (L : ℕ) (vals : List ℕ) (before : List Row) (c : ℕ) (same : vals ≡ ready before) where
-  pub row_missing : choice_for L vals c ≡ none → row_for L before c ≡ none
-  unfolding row_for and_then
-  row_missing e = ap (λ o. and_then o (λ x. some (row_of c x))) (ap (λ l. choice_for L l c) (sym same) ∙ e)
-
-  pub row_there : (x : Choice) → choice_for L vals c ≡ some x → row_for L before c ≡ some (row_of c x)
-  unfolding row_for and_then
-  row_there x e = ap (λ o. and_then o (λ x. some (row_of c x))) (ap (λ l. choice_for L l c) (sym same) ∙ e)
+-- the row of the choice on the values of some rows
+pub row_is : (L : ℕ) (vals : List ℕ) (before : List Row) (c : ℕ) → vals ≡ ready before → row_for L before c ≡ option_map (row_of c) (choice_for L vals c)
+unfolding row_for
+row_is L vals before c same = ap (λ l. option_map (row_of c) (choice_for L l c)) (sym same)
 
 -- ---- a prefix, ready or not
 

@@ -25,13 +25,14 @@ module _ (vals cs : List ℕ) where
   sift_start = record { held = refl; bound = omega arith; list = refl }
 
   module _ (r : Wanted) (i : ℕ) (s : Sifted vals cs r i) where
-    pub sift_ready : (c : ℕ) → i < length cs → get_or cs i 0 ≡ c → has vals c ≡ true → Sifted vals cs r (i + 1)
-    sift_ready c h g e =
-        record { held = s.held; bound = omega (arith, s.bound); list = rw (remaining_ready vals cs i h (rw g e)) at s.list }
+    pub sift_ready : i < length cs → has vals (get_or cs i 0) ≡ true → Sifted vals cs r (i + 1)
+    sift_ready h e =
+        record { held = s.held; bound = omega (arith, s.bound); list = rw (remaining_ready vals cs i h e) at s.list }
 
-    pub sift_left : (c : ℕ) → i < length cs → i < most_targets → get_or cs i 0 ≡ c → has vals c ≡ false
-        → Sifted vals cs (record { values = set r.values r.count c; count = r.count + 1 }) (i + 1)
-    sift_left c h b g e =
+    pub sift_left : i < length cs → i < most_targets → has vals (get_or cs i 0) ≡ false
+        → Sifted vals cs (record { values = set r.values r.count (get_or cs i 0); count = r.count + 1 }) (i + 1)
+    sift_left h b e =
+        let c = get_or cs i 0 in
         let rest : List ℕ = remaining vals (drop (i + 1) cs) in
         let more : Wanted = record { values = set r.values r.count c; count = r.count + 1 } in
         let q = held_more r c s.held (omega (arith, s.bound)) in
@@ -42,7 +43,7 @@ module _ (vals cs : List ℕ) where
           list =
               ap (λ (xs : List ℕ). xs ++ rest) k
               ∙ append_assoc (kept r) (c ∷ []) rest
-              ∙ ap (λ (xs : List ℕ). kept r ++ xs) (sym (rw g at (remaining_left vals cs i h (rw g e))))
+              ∙ ap (λ (xs : List ℕ). kept r ++ xs) (sym (remaining_left vals cs i h e))
               ∙ s.list;
         }
 

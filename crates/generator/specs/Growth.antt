@@ -1,7 +1,6 @@
 -- A graph that grows row by row: its rows' words in front of a lent slice, its ready set, and the map of what one operation reaches. Assumes nothing.
 use Rattle.std.specs.Prelude.{◌≡◌, cond, ℕ, ◌+◌, ◌-◌, ◌*◌, ◌≤◌, length}
 use mathlib.Core.List.{List, [], ◌∷◌, ◌++◌, Memᴰ}
-use Rattle.std.proofs.Math.Option.{Option, some, none}
 use Rattle.meaning.specs.Limits.{most_rows, most_ready}
 use Rattle.meaning.specs.declared.Prefix.{Prefix}
 use Rattle.meaning.specs.declared.Row.{Row}
@@ -40,11 +39,6 @@ pub record Grown (L : ℕ) (old : Ready) (xs : List Row) (new : Ready) (map befo
   pub count : new.count ≡ old.count + length xs
   pub lists : listed new ≡ listed old ++ values xs
   pub writes : now ≡ over_at (row_length * (old.count - 1)) (flat xs) before
-
--- one row or none
-abbrev pub at_most_one : Option Row → List Row
-at_most_one none = []
-at_most_one (some x) = x ∷ []
 
 -- step C's row of a prefix, if it is not ready
 unfoldable pub prefix_rows : List Row → Prefix → List Row

@@ -1,7 +1,6 @@
 -- What one turn of the generator's rule needs and finds. Assumes nothing.
-use Rattle.std.specs.Prelude.{◌≡◌, false, cond, ℕ, ◌*◌, ◌≤◌, length}
-use mathlib.Core.List.{List, [], ◌∷◌, ◌++◌, Memᴰ}
-use Rattle.std.proofs.Math.Option.{some, none}
+use Rattle.std.specs.Prelude.{◌≡◌, false, Option, Some, None, option_to_list, ℕ, ◌*◌, ◌≤◌, length}
+use mathlib.Core.List.{List, [], ◌++◌, Memᴰ}
 use Rattle.meaning.specs.declared.Row.{Row}
 use Rattle.meaning.specs.Limits.{most_targets, most_rows}
 use Rattle.meaning.specs.Graph.{row_length}
@@ -12,32 +11,25 @@ use Rattle.constants.specs.Held.{kept}
 use Rattle.search.specs.declared.ready.Ready.{Ready}
 use Rattle.search.specs.Held.{listed}
 use Rattle.meaning.specs.Operation.{Odd}
-use Rattle.search.specs.Marks.{marked, long_limit, State}
-use Rattle.generator.specs.Growth.{Servable, at_most_one, drawn_rows, Open}
-use Rattle.generator.specs.declared.rule.Near.{Near}
-use Rattle.generator.specs.declared.rule.Near.TheVariants as near
+use Rattle.search.specs.Marks.{long_limit, State}
+use Rattle.generator.specs.Growth.{Servable, drawn_rows, Open}
 use Rattle.generator.specs.declared.rule.Chosen.{Chosen}
-use Rattle.generator.specs.declared.rule.Chosen.TheVariants as chosen
 
 abbrev pub AllServable : ℕ → List ℕ → Type 0
 AllServable L cs = (c : ℕ) → Memᴰ c cs → Servable L c
-
--- the first constant that the map has
-unfoldable pub first_marked : List ℕ → List ℕ → Near
-first_marked map [] = near.Nothing
-first_marked map (c ∷ cs) = cond (marked map c) (near.At c) (first_marked map cs)
 
 -- s and then c have rows, and these are what step B adds
 pub record Serves (L : ℕ) (before : List Row) (cs : List ℕ) (c s : ℕ) : Type 0 where
   pub is_in : Memᴰ c cs
   pub odd : Odd L s
-  pub first : length (at_most_one (row_for L before s)) ≡ 1
-  pub second : length (at_most_one (row_for L (before ++ at_most_one (row_for L before s)) c)) ≡ 1
-  pub rows : rule_b L before cs ≡ some (at_most_one (row_for L before s) ++ at_most_one (row_for L (before ++ at_most_one (row_for L before s)) c))
+  pub first : length (option_to_list (row_for L before s)) ≡ 1
+  pub second : length (option_to_list (row_for L (before ++ option_to_list (row_for L before s)) c)) ≡ 1
+  pub rows : rule_b L before cs ≡ Some (option_to_list (row_for L before s) ++ option_to_list (row_for L (before ++ option_to_list (row_for L before s)) c))
 
-abbrev pub Picked : ℕ → List Row → List ℕ → Chosen → Type 0
-Picked L before cs (chosen.By c s) = Serves L before cs c s
-Picked L before cs chosen.Nothing = rule_b L before cs ≡ none
+-- the first constant that some value serves, and the smallest such value, or that there is none
+abbrev pub Picked : ℕ → List Row → List ℕ → Option Chosen → Type 0
+Picked L before cs (Some x) = Serves L before cs x.c x.s
+Picked L before cs None = rule_b L before cs ≡ None
 
 -- none of the constants is reached by one operation
 abbrev pub NoneNear : ℕ → List ℕ → List ℕ → Type 0

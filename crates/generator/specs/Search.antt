@@ -1,25 +1,16 @@
--- The search for the first row, part by part, as answers of the code. Assumes nothing.
-use Rattle.std.specs.Prelude.{◌≡◌, cond, List, [], ◌∷◌, ℕ, ◌+◌, ◌-◌, ◌^◌, ◌≤◌, ◌<◌, min, length, get_or}
-use Rattle.std.proofs.Math.Option.{Option, some, none}
+-- The search for the first row, part by part. Assumes nothing.
+use Rattle.std.specs.Prelude.{◌≡◌, cond, List, [], ◌∷◌, Option, Some, None, ℕ, ◌+◌, ◌-◌, ◌^◌, ◌≤◌, ◌<◌, min, length, get_or}
 use Rattle.meaning.specs.Limits.{most_limit, most_ready}
 use Rattle.meaning.specs.declared.Choice.{Choice}
 use Rattle.meaning.specs.Basics.{up_from, zeros, first_some}
 use Rattle.meaning.specs.Operation.{Odd, size}
 use Rattle.meaning.specs.Distance.{does_give, shift_pairs}
 use Rattle.generator.specs.declared.first_choice.Pair.{Pair}
-use Rattle.generator.specs.declared.first_choice.Found.{Found}
-use Rattle.generator.specs.declared.first_choice.Found.TheVariants.{At, Missing}
 
-abbrev pub found : Option Choice → Found
-found none = Missing
-found (some x) = At x
-
--- what may be asked: the first n of the values are odd and below 2 ^ L, and so is the constant c; L has room for guard bits
-pub record Searchable (L : ℕ) (vals : List ℕ) (n c : ℕ) : Type 0 where
+-- what may be asked: the values have indices, and the constant c is odd and below 2 ^ L, which has room for guard bits
+pub record Searchable (L : ℕ) (vals : List ℕ) (c : ℕ) : Type 0 where
   pub limit : L ≤ most_limit
-  pub few : n ≤ most_ready
-  pub inside : n ≤ length vals
-  pub odd : (i : ℕ) → i < n → Odd L (get_or vals i 0)
+  pub few : length vals ≤ most_ready
   pub wanted : Odd L c
 
 -- what of it concerns a pair
@@ -38,8 +29,8 @@ pub record Tried (p : Pair) (l1 l2 : ℕ) : Type 0 where
 unfoldable pub choice_of : Pair → ℕ → ℕ → ℕ → Option Choice
 choice_of p l1 l2 s =
     cond (does_give p.limit p.u p.v l1 l2 s p.c)
-    (some (record { u = p.i; v = p.j; l1 = l1; l2 = l2; s = s; r = zeros (size p.u p.v l1 l2 s) }))
-    none
+    (Some (record { u = p.i; v = p.j; l1 = l1; l2 = l2; s = s; r = zeros (size p.u p.v l1 l2 s) }))
+    None
 
 -- the first of the signs
 unfoldable pub sign_choice : Pair → ℕ → ℕ → Option Choice

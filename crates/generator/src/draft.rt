@@ -1,11 +1,10 @@
 // A graph being drawn: each step adds rows to the lent words, to the ready set and to the map of what one operation reaches.
-ghost use Rattle.std.specs.Prelude.{◌≡◌, [], ◌∷◌, length};
+ghost use Rattle.std.specs.Prelude.{◌≡◌, [], ◌∷◌, length, option_to_list};
 ghost use Rattle.meaning.specs.Digits.{prefixes};
 ghost use Rattle.meaning.specs.Generator.{row_of, row_for, rule_c};
 ghost use Rattle.meaning.specs.Operation.{Odd};
-ghost use Rattle.generator.specs.Growth.{drawn_rows, Open, Grown, at_most_one, prefix_rows, Servable};
+ghost use Rattle.generator.specs.Growth.{drawn_rows, Open, Grown, prefix_rows, Servable};
 
-use crate::first_choice::Found;
 use meaning::{Choice, Prefix, Row};
 use search::ready::Ready;
 
@@ -37,10 +36,10 @@ fn row_of(c: u32, x: Choice) -> Row
 // The first row that makes c, where there is one.
 pub fn add_first(map: &mut [u8], limit: u32, set: Ready, out: &mut [u32], c: u32) -> Ready
     requires { Open limit set map.old out.old 1 × Odd limit c }
-    ensures { Grown limit set (at_most_one (row_for limit (drawn_rows set out.old) c)) result map.new out.old out.new }
+    ensures { Grown limit set (option_to_list (row_for limit (drawn_rows set out.old) c)) result map.new out.old out.new }
 {
-    let found = crate::first_choice::choice_for(limit, &set.values, set.count, c);
-    let Found::At(x) = found else {
+    let ready = &set.values[..set.count];
+    let Some(x) = crate::first_choice::choice_for(limit, ready, c) else {
         return set;
     };
     let row = row_of(c, x);
@@ -72,12 +71,11 @@ pub fn add_prefixes(map: &mut [u8], limit: u32, set: Ready, out: &mut [u32], c: 
     requires { Open limit set map.old out.old (length (rule_c (drawn_rows set out.old) (prefixes c))) × Servable limit c }
     ensures { Grown limit set (rule_c (drawn_rows set out.old) (prefixes c)) result map.new out.old out.new }
 {
-    let ps = digits::prefixes_of(c);
+    let held = digits::prefixes_of(c);
+    let ps = &held.list[..held.count as usize];
     let mut more = set;
-    let mut i = 0;
-    while i < ps.count {
-        more = add_prefix(map, limit, more, out, ps.list[i as usize]);
-        i += 1;
+    for p in ps {
+        more = add_prefix(map, limit, more, out, *p);
     }
     more
 }

@@ -1,18 +1,12 @@
 // The first row that makes a constant from the ready values: the first valid choice in the order u index, v index, l1, l2, s, each
 // ascending, the u index at most the v index.
-ghost use Rattle.std.specs.Prelude.{◌≡◌, ◌≤◌, ◌<◌, take};
+ghost use Rattle.std.specs.Prelude.{◌≡◌, ◌≤◌, ◌<◌, length};
 ghost use Rattle.meaning.specs.Limits.{most_limit};
 ghost use Rattle.meaning.specs.Operation.{size};
 ghost use Rattle.meaning.specs.Generator.{choice_for};
-ghost use Rattle.generator.specs.Search.{found, Sought, Searchable, Tried, choice_of, sign_choice, right_choice, left_choice, pair_choice, from_choice};
+ghost use Rattle.generator.specs.Search.{Sought, Searchable, Tried, choice_of, sign_choice, right_choice, left_choice, pair_choice, from_choice};
 
 use meaning::Choice;
-
-#[derive(Clone, Copy)]
-pub enum Found {
-    At(Choice),
-    Missing,
-}
 
 // Two ready values u and v with their indices i and j, and the constant c wanted of them.
 #[derive(Clone, Copy)]
@@ -39,19 +33,19 @@ fn size_of(u: u32, v: u32, l1: u32, l2: u32, s: u32) -> u64
 }
 
 // The row of one choice, if that makes c.
-fn choice(p: Pair, l1: u32, l2: u32, s: u32) -> Found
+fn choice(p: Pair, l1: u32, l2: u32, s: u32) -> Option<Choice>
     requires { Tried p l1 l2 × (s ≤ 1) }
-    ensures { result ≡ found (choice_of p l1 l2 s) }
+    ensures { result ≡ choice_of p l1 l2 s }
 {
     let m = size_of(p.u, p.v, l1, l2, s);
     if m == 0 {
-        return Found::Missing;
+        return None;
     }
     let r = u64::trailing_zeros(m);
     if m >> r != p.c as u64 {
-        return Found::Missing;
+        return None;
     }
-    Found::At(Choice {
+    Some(Choice {
         u: p.i,
         v: p.j,
         l1,
@@ -62,95 +56,57 @@ fn choice(p: Pair, l1: u32, l2: u32, s: u32) -> Found
 }
 
 // Plus before minus.
-fn signs(p: Pair, l1: u32, l2: u32) -> Found
+fn signs(p: Pair, l1: u32, l2: u32) -> Option<Choice>
     requires { Tried p l1 l2 }
-    ensures { result ≡ found (sign_choice p l1 l2) }
+    ensures { result ≡ sign_choice p l1 l2 }
 {
-    let plus = choice(p, l1, l2, 0);
-    let Found::Missing = plus else {
-        return plus;
-    };
-    choice(p, l1, l2, 1)
+    choice(p, l1, l2, 0).or_else(|| choice(p, l1, l2, 1))
 }
 
 // Where l1 is 0.
-fn rights(p: Pair) -> Found
+fn rights(p: Pair) -> Option<Choice>
     requires { Sought p }
-    ensures { result ≡ found (right_choice p) }
+    ensures { result ≡ right_choice p }
 {
-    let mut l: u32 = 0;
-    while l <= p.limit {
-        let f = signs(p, 0, l);
-        let Found::Missing = f else {
-            return f;
-        };
-        l += 1;
-    }
-    Found::Missing
+    (0..p.limit + 1).find_map(|l| signs(p, 0, l))
 }
 
 // Where l1 is not, so that l2 is.
-fn lefts(p: Pair) -> Found
+fn lefts(p: Pair) -> Option<Choice>
     requires { Sought p }
-    ensures { result ≡ found (left_choice p) }
+    ensures { result ≡ left_choice p }
 {
-    let mut l: u32 = 1;
-    while l <= p.limit {
-        let f = signs(p, l, 0);
-        let Found::Missing = f else {
-            return f;
-        };
-        l += 1;
-    }
-    Found::Missing
+    (1..p.limit + 1).find_map(|l| signs(p, l, 0))
 }
 
 // Every pair of shifts is tried.
-fn pair_choice(p: Pair) -> Found
+fn pair_choice(p: Pair) -> Option<Choice>
     requires { Sought p }
-    ensures { result ≡ found (pair_choice p) }
+    ensures { result ≡ pair_choice p }
 {
-    let right = rights(p);
-    let Found::Missing = right else {
-        return right;
-    };
-    lefts(p)
+    rights(p).or_else(|| lefts(p))
 }
 
 // The u index is i.
-fn choice_from(limit: u32, ready: &[u32], n: usize, i: usize, c: u32) -> Found
-    requires { Searchable limit ready.now n c × (i < n) }
-    ensures { result ≡ found (from_choice limit (take n ready.now) c i) }
+fn choice_from(limit: u32, ready: &[u32], i: usize, c: u32) -> Option<Choice>
+    requires { Searchable limit ready.now c × (i < length ready.now) }
+    ensures { result ≡ from_choice limit ready.now c i }
 {
-    let mut j = i;
-    while j < n {
-        let f = pair_choice(Pair {
+    (i..ready.len()).find_map(|j| {
+        pair_choice(Pair {
             limit,
             c,
             i: i as u32,
             j: j as u32,
             u: ready[i],
             v: ready[j],
-        });
-        let Found::Missing = f else {
-            return f;
-        };
-        j += 1;
-    }
-    Found::Missing
+        })
+    })
 }
 
-pub fn choice_for(limit: u32, ready: &[u32], n: usize, c: u32) -> Found
-    requires { Searchable limit ready.now n c }
-    ensures { result ≡ found (choice_for limit (take n ready.now) c) }
+pub fn choice_for(limit: u32, ready: &[u32], c: u32) -> Option<Choice>
+    requires { Searchable limit ready.now c }
+    ensures { result ≡ choice_for limit ready.now c }
 {
-    let mut i = 0;
-    while i < n {
-        let f = choice_from(limit, ready, n, i, c);
-        let Found::Missing = f else {
-            return f;
-        };
-        i += 1;
-    }
-    Found::Missing
+    (0..ready.len()).find_map(|i| choice_from(limit, ready, i, c))
 }

@@ -39,11 +39,9 @@ fn draw(map: &mut [u8], limit: u32, out: &mut [u32], w: Wanted) -> Ready
     ensures { (result.count ≡ length (turned limit (kept w)) + 1) × (out.new ≡ over (flat (turned limit (kept w))) out.old) }
 {
     let mut set = start(map, limit);
-    let mut k = 0;
-    while k < w.count {
+    for _ in 0..w.count {
         let left = remaining::left(set, w);
         set = rule::turn(map, limit, set, out, left);
-        k += 1;
     }
     set
 }

@@ -18,14 +18,12 @@ pub fn left(set: Ready, w: Wanted) -> Wanted
         values: [0u32; MOST_TARGETS],
         count: 0,
     };
-    let mut i = 0;
-    while i < w.count {
-        let c = w.values[i];
-        if !arith::has(&set.values, set.count, c) {
-            r.values[r.count] = c;
+    let cs = &w.values[..w.count];
+    for c in cs {
+        if !arith::has(&set.values, set.count, *c) {
+            r.values[r.count] = *c;
             r.count += 1;
         }
-        i += 1;
     }
     r
 }

@@ -3,6 +3,7 @@ pub mod Tests
 pub mod Over
 pub mod Has
 pub mod First
+pub mod FindMap
 pub mod Least
 pub mod Index
 pub mod Permutations

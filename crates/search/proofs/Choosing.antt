@@ -1,6 +1,6 @@
 -- The least value that is reached and gives the constant is step B's choice, and there is one exactly if the distance is 2. Assumes nothing.
 use mathlib.Core.Path.{◌≡◌, sym, ap, ap₂, subst, subst⁻¹, ◌∙◌}
-use mathlib.Core.Bool.{Bool, true, false, ◌||◌, ◌&&◌, cond}
+use mathlib.Core.Bool.{Bool, true, false, ◌||◌, ◌&&◌}
 use mathlib.Core.List.Memᴰ
 use mathlib.Core.List.{List, [], ◌∷◌, Memᴰ}
 use mathlib.Core.Logic.{⊎_elim}

@@ -1,7 +1,7 @@
 -- `draw` meets its contract: turn after turn, as many as there are constants. Assumes nothing.
-use mathlib.Core.Path.{◌≡◌, refl, ◌∙◌, subst, subst⁻¹}
+use mathlib.Core.Path.{◌≡◌, subst, subst⁻¹}
 use mathlib.Core.List.{List}
-use Prim.Native.Nat.{ℕ, ◌<◌}
+use Prim.Native.Nat.{ℕ}
 use native.Mathlib.Omega.{arith}
 use borrow.Author.Rules.{rules}
 use lib.ListN.{length, length-take}
@@ -17,7 +17,7 @@ use Rattle.generator.specs.Growth.{drawn_rows, Open, Grown}
 use Rattle.generator.specs.Rule.{AllServable}
 use Rattle.generator.proofs.Turns.{started_open, turned_start, turned_open, turned_more, turned_end, from_front}
 use Rattle.generator.proofs.draw.Goals as goal
-use Rattle.generator.proofs.draw.Goals.{After-start-set, In-loop-k, Start}
+use Rattle.generator.proofs.draw.Goals.{After-start-set, In-loop, Start}
 
 -- as many constants as are counted
 its_length : (c : Start) → length (kept c.args.w) ≡ c.args.w.count
@@ -29,46 +29,36 @@ opened c = started_open c.start-set.ensures.0 c.start-set.ensures.1 c.requires.0
 pub start-set-requires : goal.start-set-requires
 start-set-requires c = (c.requires.0.least, c.requires.0.state)
 
-pub loop-k-init : goal.loop-k-init
-loop-k-init c = (omega arith, turned_start c.start-set.ensures.0 (opened (goal.at.loop-k-init c).After-start-set), refl, refl)
+pub loop-init : goal.loop-init
+loop-init c = turned_start c.start-set.ensures.0 (opened (goal.at.loop-init c).After-start-set)
 
 pub left-left-requires : goal.left-left-requires
 left-left-requires c = c.requires.1
 
 -- what is left is servable, and the next turn has room
-next_open : (c : In-loop-k) → let a = c.args in
-    Open a.limit c.loop-k.set c.loop-k.map c.loop-k.out (length (added a.limit (drawn_rows c.loop-k.set c.loop-k.out) (remaining (listed c.loop-k.set) (kept a.w))))
+next_open : (c : In-loop) → let a = c.args in
+    Open a.limit c.loop.set c.loop.map c.loop.out (length (added a.limit (drawn_rows c.loop.set c.loop.out) (remaining (listed c.loop.set) (kept a.w))))
 next_open c =
-    turned_open c.start-set.ensures.0 (opened (goal.at.left-left-requires c).After-start-set) c.loop-k.invariant.1 (omega (arith, its_length (goal.at.left-left-requires c).Start, c.loop-k-test.true)) c.requires.0.few
+    turned_open c.start-set.ensures.0 (opened (goal.at.left-left-requires c).After-start-set) c.loop.invariant (omega (arith, its_length (goal.at.left-left-requires c).Start, c.loop-test.true)) c.requires.0.few
 
 pub turn-set-requires : goal.turn-set-requires
 turn-set-requires c =
     let e = held_list _ _ c.left-left.ensures in
     record {
       room =
-          subst⁻¹ (λ (cs : List ℕ). Open c.args.limit c.loop-k.set c.loop-k.map c.loop-k.out (length (added c.args.limit (drawn_rows c.loop-k.set c.loop-k.out) cs))) e
-          (next_open (goal.at.turn-set-requires c).In-loop-k);
+          subst⁻¹ (λ (cs : List ℕ). Open c.args.limit c.loop.set c.loop.map c.loop.out (length (added c.args.limit (drawn_rows c.loop.set c.loop.out) cs))) e
+          (next_open (goal.at.turn-set-requires c).In-loop);
       limit = c.requires.0.most;
-      few = omega (arith, held_count _ _ c.left-left.ensures, few_left (listed c.loop-k.set) (kept c.args.w), length-take c.args.w.count c.args.w.values, c.requires.1);
+      few = omega (arith, held_count _ _ c.left-left.ensures, few_left (listed c.loop.set) (kept c.args.w), length-take c.args.w.count c.args.w.values, c.requires.1);
       servable = subst⁻¹ (AllServable c.args.limit) e (λ k i. c.requires.0.servable k (remaining_in _ _ k i).0);
     }
 
-pub loop-k-preserved : goal.loop-k-preserved
-loop-k-preserved c =
-    let h : c.loop-k.k < c.args.w.count = c.loop-k-test.true in (
-      omega arith,
-      turned_more c.start-set.ensures.0 (opened (goal.at.loop-k-preserved c).After-start-set) c.loop-k.invariant.1 (omega (arith, its_length (goal.at.loop-k-preserved c).Start)) c.requires.0.few
-          (subst (λ (cs : List ℕ). Grown c.args.limit c.loop-k.set (added c.args.limit (drawn_rows c.loop-k.set c.loop-k.out) cs) c.turn-set.result c.turn-set.new.map c.loop-k.out c.turn-set.new.out) (held_list _ _ c.left-left.ensures) c.turn-set.ensures),
-      c.map-in-loop-k-1.given ∙ c.loop-k.invariant.2,
-      c.out-1.given ∙ c.loop-k.invariant.3,
-    )
-
-pub shape_of-map : goal.shape_of-map
-shape_of-map c = c.loop-k.invariant.2 ∙ c.map-1.given
-
-pub shape_of-out : goal.shape_of-out
-shape_of-out c = c.loop-k.invariant.3
+pub loop-preserved : goal.loop-preserved
+loop-preserved c =
+    let g = goal.at.loop-preserved c in
+    turned_more c.start-set.ensures.0 (opened g.After-start-set) c.loop.invariant (omega (arith, its_length g.Start, c.loop-test.true)) c.requires.0.few
+    (subst (λ (cs : List ℕ). Grown c.args.limit c.loop.set (added c.args.limit (drawn_rows c.loop.set c.loop.out) cs) c.turn-set.result c.turn-set.new.map c.loop.out c.turn-set.new.out) (held_list _ _ c.left-left.ensures) c.turn-set.ensures)
 
 pub returns : goal.returns
 returns c =
-    from_front c.start-set.ensures.0 (turned_end c.start-set.ensures.0 (opened (goal.at.returns c).After-start-set) c.loop-k.invariant.1 (omega (arith, its_length (goal.at.returns c).Start, c.loop-k-test.false)))
+    from_front c.start-set.ensures.0 (turned_end c.start-set.ensures.0 (opened (goal.at.returns c).After-start-set) c.loop.invariant (omega (arith, its_length (goal.at.returns c).Start, c.loop-test.false)))

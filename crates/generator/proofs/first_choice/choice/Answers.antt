@@ -5,7 +5,7 @@ use native.Mathlib.Omega.{arith}
 use lib.Count.{count_trailing_zeros}
 use Rattle.meaning.specs.Basics.{zeros}
 use Rattle.laws.proofs.Whole.Zeros.{machine_is, zeros_low}
-use Rattle.generator.specs.declared.first_choice.Found.TheVariants.{At}
+use Rattle.std.specs.Prelude.{Some}
 use Rattle.generator.proofs.FirstChoice.{choice_miss, choice_hit}
 use Rattle.generator.proofs.first_choice.choice.Goals as goal
 use Rattle.generator.proofs.first_choice.choice.Goals.{Else-m-eq0}
@@ -41,6 +41,6 @@ returns c =
     let m = c.size_of-m.result in
     let a = c.args in
     let (t, h) = c.requires in
-    ap (λ r. At (record { u = a.p.i; v = a.p.j; l1 = a.l1; l2 = a.l2; s = a.s; r = r })) (counts (goal.at.returns c).Else-m-eq0)
+    ap (λ r. Some (record { u = a.p.i; v = a.p.j; l1 = a.l1; l2 = a.l2; s = a.s; r = r })) (counts (goal.at.returns c).Else-m-eq0)
     ∙ choice_hit a.p a.l1 a.l2 a.s m c.size_of-m.ensures t.left t.right t.unshifted h (positive (goal.at.returns c).Else-m-eq0)
     (ap (λ k. m / 2 ^ k) (sym (counts (goal.at.returns c).Else-m-eq0)) ∙ c.if-m-r.false) t.sought.below

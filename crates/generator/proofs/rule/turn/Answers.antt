@@ -1,7 +1,7 @@
 -- `turn` meets its contract: step A where the map has a constant, else step B where one has a choice, else step C for the first. Assumes nothing.
 use mathlib.Core.Path.{◌≡◌, sym, ap, ◌∙◌, subst, subst⁻¹}
 use mathlib.Core.List.{List, ◌++◌}
-use mathlib.Core.Option.{none}
+use Rattle.std.specs.Prelude.{Option, None, option_to_list}
 use Prim.Native.Nat.{ℕ}
 use native.Mathlib.Omega.{arith}
 use borrow.Author.Rules.{rules}
@@ -12,54 +12,54 @@ use Rattle.meaning.specs.Generator.{row_for, rule_a, rule_c, added}
 use Rattle.constants.specs.Held.{kept}
 use Rattle.constants.proofs.Kept.{kept_at, kept_inside, kept_in, kept_nothing}
 use Rattle.search.specs.Held.{listed}
-use Rattle.generator.specs.Growth.{drawn_rows, Open, Grown, at_most_one}
+use Rattle.generator.specs.Growth.{drawn_rows, Open, Grown}
 use Rattle.generator.proofs.DraftLaws.{grown_none, grown_then, drawn_more, open_on, open_less}
 use Rattle.generator.specs.declared.rule.Chosen.{Chosen}
 use Rattle.generator.specs.Rule.{Serves, Picked, NoneNear}
 use Rattle.generator.proofs.RuleLaws.{Nearest, near_at, near_nothing, added_none, added_a, added_b, added_c, added_two}
 use Rattle.generator.proofs.rule.turn.Goals as goal
-use Rattle.generator.proofs.rule.turn.Goals.{In-At, In-By, In_default, In_default-pick}
+use Rattle.generator.proofs.rule.turn.Goals.{In-Some, In-Some-pick, In_default, In_default-pick}
 
-nearest_is : (c : In-At) → Nearest c.args.limit (drawn_rows c.args.set c.args.out.now) (kept c.args.w) c.in-At.c
+nearest_is : (c : In-Some) → Nearest c.args.limit (drawn_rows c.args.set c.args.out.now) (kept c.args.w) c.in-Some.c
 nearest_is c =
-    near_at _ _ _ _ c.requires.room.state _ c.requires.room.same _ c.requires.servable _ (sym c.nearest.ensures ∙ c.in-At.is)
+    near_at _ _ _ _ c.requires.room.state _ c.requires.room.same _ c.requires.servable _ (sym c.nearest.ensures ∙ c.in-Some.is)
 
-added_by_a : (c : In-At) →
-    added c.args.limit (drawn_rows c.args.set c.args.out.now) (kept c.args.w) ≡ at_most_one (row_for c.args.limit (drawn_rows c.args.set c.args.out.now) c.in-At.c)
+added_by_a : (c : In-Some) →
+    added c.args.limit (drawn_rows c.args.set c.args.out.now) (kept c.args.w) ≡ option_to_list (row_for c.args.limit (drawn_rows c.args.set c.args.out.now) c.in-Some.c)
 added_by_a c = added_a _ _ _ _ (nearest_is c).rows
 
 none_near : (c : In_default) →
-    (rule_a c.args.limit (drawn_rows c.args.set c.args.out.now) (kept c.args.w) ≡ none) × NoneNear c.args.limit (listed c.args.set) (kept c.args.w)
+    (rule_a c.args.limit (drawn_rows c.args.set c.args.out.now) (kept c.args.w) ≡ None) × NoneNear c.args.limit (listed c.args.set) (kept c.args.w)
 none_near c =
     near_nothing _ _ _ _ c.requires.room.state _ c.requires.room.same _ c.requires.servable (sym c.nearest.ensures ∙ c.in_default.is)
 
-picked_is : (c : In-By) → Serves c.args.limit (drawn_rows c.args.set c.args.out.now) (kept c.args.w) c.in-By.c c.in-By.s
+picked_is : (c : In-Some-pick) → Serves c.args.limit (drawn_rows c.args.set c.args.out.now) (kept c.args.w) c.in-Some-pick.x.c c.in-Some-pick.x.s
 picked_is c =
-    subst (λ (r : Chosen). Picked c.args.limit (drawn_rows c.args.set c.args.out.now) (kept c.args.w) r) c.in-By.is (c.pick.ensures (drawn_rows c.args.set c.args.out.now) (sym c.requires.room.same))
+    subst (λ (r : Option Chosen). Picked c.args.limit (drawn_rows c.args.set c.args.out.now) (kept c.args.w) r) c.in-Some-pick.is (c.pick.ensures (drawn_rows c.args.set c.args.out.now) (sym c.requires.room.same))
 
 -- the row of s, and that of the constant after it
-abbrev first_row : In-By → List Row
-first_row c = at_most_one (row_for c.args.limit (drawn_rows c.args.set c.args.out.now) c.in-By.s)
+abbrev first_row : In-Some-pick → List Row
+first_row c = option_to_list (row_for c.args.limit (drawn_rows c.args.set c.args.out.now) c.in-Some-pick.x.s)
 
-abbrev second_row : In-By → List Row
-second_row c = at_most_one (row_for c.args.limit (drawn_rows c.args.set c.args.out.now ++ first_row c) c.in-By.c)
+abbrev second_row : In-Some-pick → List Row
+second_row c = option_to_list (row_for c.args.limit (drawn_rows c.args.set c.args.out.now ++ first_row c) c.in-Some-pick.x.c)
 
-added_by_b : (c : In-By) → rule_a c.args.limit (drawn_rows c.args.set c.args.out.now) (kept c.args.w) ≡ none
+added_by_b : (c : In-Some-pick) → rule_a c.args.limit (drawn_rows c.args.set c.args.out.now) (kept c.args.w) ≡ None
     → added c.args.limit (drawn_rows c.args.set c.args.out.now) (kept c.args.w) ≡ first_row c ++ second_row c
 added_by_b c n = added_b _ _ _ _ n (picked_is c).rows
 
-two : (c : In-By) → rule_a c.args.limit (drawn_rows c.args.set c.args.out.now) (kept c.args.w) ≡ none
+two : (c : In-Some-pick) → rule_a c.args.limit (drawn_rows c.args.set c.args.out.now) (kept c.args.w) ≡ None
     → length (added c.args.limit (drawn_rows c.args.set c.args.out.now) (kept c.args.w)) ≡ 2
 two c n = added_two _ _ _ _ _ n (picked_is c)
 
-added_by_c : (c : In_default-pick) → rule_a c.args.limit (drawn_rows c.args.set c.args.out.now) (kept c.args.w) ≡ none
+added_by_c : (c : In_default-pick) → rule_a c.args.limit (drawn_rows c.args.set c.args.out.now) (kept c.args.w) ≡ None
     → added c.args.limit (drawn_rows c.args.set c.args.out.now) (kept c.args.w) ≡ rule_c (drawn_rows c.args.set c.args.out.now) (prefixes (get_or c.args.w.values 0 0))
 added_by_c c n =
     let a = c.args in
     let some = c.if-w-eq0.false in
     let p : length a.w.values ≡ 16 = search rules in
     added_c _ _ _ (kept_inside a.w 0 p c.requires.few (omega arith)) n
-    (subst (λ (r : Chosen). Picked a.limit (drawn_rows c.args.set c.args.out.now) (kept a.w) r) c.in_default-pick.is (c.pick.ensures (drawn_rows c.args.set c.args.out.now) (sym c.requires.room.same)))
+    (subst (λ (r : Option Chosen). Picked a.limit (drawn_rows c.args.set c.args.out.now) (kept a.w) r) c.in_default-pick.is (c.pick.ensures (drawn_rows c.args.set c.args.out.now) (sym c.requires.room.same)))
     ∙ ap (λ (k : ℕ). rule_c (drawn_rows c.args.set c.args.out.now) (prefixes k)) (kept_at a.w 0 (omega arith))
 
 -- ---- the needs
@@ -75,13 +75,13 @@ nearest-requires c =
 
 pub add_first-requires : goal.add_first-requires
 add_first-requires c =
-    (open_less _ 1 (omega (arith, ap length (added_by_a (goal.at.add_first-requires c).In-At), (nearest_is (goal.at.add_first-requires c).In-At).one)) c.requires.room, (c.requires.servable _ (nearest_is (goal.at.add_first-requires c).In-At).is_in).odd)
+    (open_less _ 1 (omega (arith, ap length (added_by_a (goal.at.add_first-requires c).In-Some), (nearest_is (goal.at.add_first-requires c).In-Some).one)) c.requires.room, (c.requires.servable _ (nearest_is (goal.at.add_first-requires c).In-Some).is_in).odd)
 
-pub returns-in-At : goal.returns-in-At
-returns-in-At c =
+pub returns-in-Some : goal.returns-in-Some
+returns-in-Some c =
     let a = c.args in
     subst⁻¹ (λ (xs : List Row). Grown a.limit a.set xs c.add_first.result c.add_first.new.map a.out.now c.add_first.new.out)
-    (added_by_a (goal.at.returns-in-At c).In-At) c.add_first.ensures
+    (added_by_a (goal.at.returns-in-Some c).In-Some) c.add_first.ensures
 
 pub pick-requires : goal.pick-requires
 pick-requires c =
@@ -89,24 +89,24 @@ pick-requires c =
 
 pub add_first-more-requires : goal.add_first-more-requires
 add_first-more-requires c =
-    (open_less _ 1 (omega (arith, two (goal.at.add_first-more-requires c).In-By (none_near (goal.at.add_first-more-requires c).In_default).0)) c.requires.room, (picked_is (goal.at.add_first-more-requires c).In-By).odd)
+    (open_less _ 1 (omega (arith, two (goal.at.add_first-more-requires c).In-Some-pick (none_near (goal.at.add_first-more-requires c).In_default).0)) c.requires.room, (picked_is (goal.at.add_first-more-requires c).In-Some-pick).odd)
 
-pub add_first-requires-in-By : goal.add_first-requires-in-By
-add_first-requires-in-By c =
-    (open_on _ 1 (omega (arith, two (goal.at.add_first-requires-in-By c).In-By (none_near (goal.at.add_first-requires-in-By c).In_default).0, (picked_is (goal.at.add_first-requires-in-By c).In-By).first)) c.requires.room c.add_first-more.ensures, (c.requires.servable _ (picked_is (goal.at.add_first-requires-in-By c).In-By).is_in).odd)
+pub add_first-requires-in-Some-pick : goal.add_first-requires-in-Some-pick
+add_first-requires-in-Some-pick c =
+    (open_on _ 1 (omega (arith, two (goal.at.add_first-requires-in-Some-pick c).In-Some-pick (none_near (goal.at.add_first-requires-in-Some-pick c).In_default).0, (picked_is (goal.at.add_first-requires-in-Some-pick c).In-Some-pick).first)) c.requires.room c.add_first-more.ensures, (c.requires.servable _ (picked_is (goal.at.add_first-requires-in-Some-pick c).In-Some-pick).is_in).odd)
 
-pub returns-in-By : goal.returns-in-By
-returns-in-By c =
+pub returns-in-Some-pick : goal.returns-in-Some-pick
+returns-in-Some-pick c =
     let a = c.args in
-    let b = (goal.at.returns-in-By c).In-By in
+    let b = (goal.at.returns-in-Some-pick c).In-Some-pick in
     -- the rows drawn with that of s
     let s : drawn_rows c.add_first-more.result c.add_first-more.new.out ≡ drawn_rows a.set a.out.now ++ first_row b =
-    drawn_more _ (omega (arith, two b (none_near (goal.at.returns-in-By c).In_default).0, (picked_is b).first)) c.requires.room c.add_first-more.ensures in
-    subst⁻¹ (λ (xs : List Row). Grown a.limit a.set xs c.add_first-in-By.result c.add_first-in-By.new.map a.out.now c.add_first-in-By.new.out)
-    (added_by_b (goal.at.returns-in-By c).In-By (none_near (goal.at.returns-in-By c).In_default).0)
+    drawn_more _ (omega (arith, two b (none_near (goal.at.returns-in-Some-pick c).In_default).0, (picked_is b).first)) c.requires.room c.add_first-more.ensures in
+    subst⁻¹ (λ (xs : List Row). Grown a.limit a.set xs c.add_first-in-Some-pick.result c.add_first-in-Some-pick.new.map a.out.now c.add_first-in-Some-pick.new.out)
+    (added_by_b (goal.at.returns-in-Some-pick c).In-Some-pick (none_near (goal.at.returns-in-Some-pick c).In_default).0)
     (grown_then _ c.requires.room c.add_first-more.ensures
-    (subst (λ (ys : List Row). Grown a.limit c.add_first-more.result (at_most_one (row_for a.limit ys c.in-By.c)) c.add_first-in-By.result c.add_first-in-By.new.map c.add_first-more.new.out c.add_first-in-By.new.out)
-    s c.add_first-in-By.ensures))
+    (subst (λ (ys : List Row). Grown a.limit c.add_first-more.result (option_to_list (row_for a.limit ys c.in-Some-pick.x.c)) c.add_first-in-Some-pick.result c.add_first-in-Some-pick.new.map c.add_first-more.new.out c.add_first-in-Some-pick.new.out)
+    s c.add_first-in-Some-pick.ensures))
 
 pub add_prefixes-requires : goal.add_prefixes-requires
 add_prefixes-requires c =
