@@ -1,8 +1,6 @@
 -- Lines by their forms. A form is a text in which each # stands for a number, so that a line stands once for its writer and its reader.
 -- Assumes nothing.
-use Rattle.std.specs.Prelude.{Bool, cond, List, [], ◌∷◌, ◌++◌, ℕ, ◌+◌, eqb, ℤ, pos, get_or, drop}
-use Rattle.meaning.specs.declared.Read.{Read}
-use Rattle.meaning.specs.declared.Read.TheVariants.{Number, Bad}
+use Rattle.std.specs.Prelude.{Bool, cond, List, [], ◌∷◌, ◌++◌, ℕ, ◌+◌, eqb, ℤ, pos, get_or, drop, Option, Some, None}
 use Rattle.meaning.specs.Text.{bytes, stands, number_at, text_of}
 
 -- ---- a line written
@@ -27,30 +25,29 @@ lines_of form (zs ∷ more) = line_of form zs ++ lines_of form more
 
 -- ---- a line read
 
--- what a line holds: its content and the place behind its line feed, or that it is bad
-pub data Line (A : Type 0) : Type 0 where
-  good : A → ℕ → Line A
-  bad : Line A
+-- what a line holds: its content and the place behind its line feed; none if it is bad
+abbrev pub Line : Type 0 → Type 0
+Line A = Option (A × ℕ)
 
 -- a number that is read, and then what the rest says of it
-abbrev pub on_read : {A : Type 0} → Read → (ℤ → ℕ → A) → A → A
-on_read (Number z p) k e = k z p
-on_read Bad k e = e
+abbrev pub on_read : {A : Type 0} → Option (ℤ × ℕ) → (ℤ → ℕ → Line A) → Line A
+on_read None rest = None
+on_read (Some (z, p)) rest = rest z p
 
 abbrev pub front : {A : Type 0} → A → Line (List A) → Line (List A)
-front z (good zs p) = good (z ∷ zs) p
-front z bad = bad
+front z None = None
+front z (Some (zs, p)) = Some (z ∷ zs, p)
 
 -- what stands for a form's byte, and then the rest
 abbrev pub read_number : List ℕ → ℕ → (ℕ → Line (List ℤ)) → Line (List ℤ)
-read_number s at rest = on_read (number_at s at) (λ z p. front z (rest p)) bad
+read_number s at rest = on_read (number_at s at) (λ z p. front z (rest p))
 
 abbrev pub read_byte : ℕ → List ℕ → ℕ → (ℕ → Line (List ℤ)) → Line (List ℤ)
-read_byte c s at rest = cond (stands (c ∷ []) s at) (rest (at + 1)) bad
+read_byte c s at rest = cond (stands (c ∷ []) s at) (rest (at + 1)) None
 
 -- the numbers of a form's line at a place
 unfoldable pub line_at : List ℕ → List ℕ → ℕ → Line (List ℤ)
-line_at [] s at = good [] at
+line_at [] s at = Some ([], at)
 line_at (c ∷ cs) s at = cond (eqb c 35) read_number (read_byte c) s at (line_at cs s)
 
 -- ---- the forms

@@ -1,9 +1,9 @@
 -- The job: the grammar of its text, what it asks for, and the order in which it is refused. Assumes nothing.
-use Rattle.std.specs.Prelude.{Bool, true, false, cond, List, [], ◌∷◌, ◌++◌, ℕ, zero, suc, ◌+◌, eqb, leb, ℤ, pos, negsuc, length, get_or}
+use Rattle.std.specs.Prelude.{Bool, true, false, cond, List, [], ◌∷◌, ◌++◌, ℕ, zero, suc, ◌+◌, eqb, leb, ℤ, pos, negsuc, length, get_or, Some, None}
 use Rattle.meaning.specs.declared.Head.{Head}
 use Rattle.meaning.specs.declared.Row.{Row}
 use Rattle.meaning.specs.Text.{bytes, stands, number_at}
-use Rattle.meaning.specs.Forms.{Line, good, bad, on_read, front, line_at, bits_form, input_form, report_text}
+use Rattle.meaning.specs.Forms.{Line, on_read, front, line_at, bits_form, input_form, report_text}
 use Rattle.meaning.specs.Generator.{generated}
 use Rattle.meaning.specs.Refusals.{Answer, admit_order, few_rows, input_width}
 
@@ -28,37 +28,35 @@ most_job_targets = 128
 
 -- the only number of a line
 abbrev pub only : Line (List ℤ) → Line ℤ
-only (good zs p) = good (get_or zs 0 (pos 0)) p
-only bad = bad
+only None = None
+only (Some (zs, p)) = Some (get_or zs 0 (pos 0), p)
 
 -- one of two whole lines
 unfoldable pub report_at : List ℕ → ℕ → Line Bool
 report_at s at =
-    cond (stands (report_text true) s at) (good true (at + length (report_text true)))
-    (cond (stands (report_text false) s at) (good false (at + length (report_text false))) bad)
+    cond (stands (report_text true) s at) (Some (true, at + length (report_text true)))
+    (cond (stands (report_text false) s at) (Some (false, at + length (report_text false))) None)
 
 -- one or more numbers, joined by commas, and a line feed; no more of them than the first number says
 unfoldable pub numbers : ℕ → List ℕ → ℕ → Line (List ℤ)
-numbers zero s at = bad
+numbers zero s at = None
 numbers (suc most) s at =
-    on_read (number_at s at)
-    (λ z p.
+    on_read (number_at s at) λ z p.
     cond (stands (bytes ",") s p) (front z (numbers most s (p + 1)))
-    (cond (stands (bytes "\n") s p) (good (z ∷ []) (p + 1)) bad))
-    bad
+    (cond (stands (bytes "\n") s p) (Some (z ∷ [], p + 1)) None)
 
 -- the list may be empty
 unfoldable pub targets_at : List ℕ → ℕ → Line (List ℤ)
 targets_at s at =
     cond (stands (bytes "targets=") s at)
-    (cond (stands (bytes "\n") s (at + 8)) (good [] (at + 9)) (numbers (length s) s (at + 8)))
-    bad
+    (cond (stands (bytes "\n") s (at + 8)) (Some ([], at + 9)) (numbers (length s) s (at + 8)))
+    None
 
 -- ---- the lines, one after the other: the first bad one is the place
 
 abbrev pub next : {A : Type 0} → Line A → ℕ → (A → ℕ → ℕ → Job) → Job
-next (good a p) line k = k a (line + 1) p
-next bad line k = malformed line
+next None line k = malformed line
+next (Some (a, p)) line k = k a (line + 1) p
 
 -- nothing may follow
 abbrev pub ended : List ℕ → Job → ℕ → ℕ → Job

@@ -1,9 +1,7 @@
 -- Texts as lists of bytes: what stands at a place of one, and numbers in decimal. Assumes nothing.
-use Rattle.std.specs.Prelude.{Bool, true, false, cond, not, List, [], ◌∷◌, ◌++◌, ℕ, zero, suc, ◌+◌, ◌-◌, ◌*◌, ◌/◌, ◌%◌, eqb, leb, ltb, ℤ, pos, negsuc, length, get_or, take, drop}
+use Rattle.std.specs.Prelude.{Bool, true, false, cond, not, List, [], ◌∷◌, ◌++◌, ℕ, zero, suc, ◌+◌, ◌-◌, ◌*◌, ◌/◌, ◌%◌, eqb, leb, ltb, ℤ, pos, negsuc, length, get_or, take, drop, Option, Some, None}
 use Prim.Native.Char.{code}
 use Prim.Native.String.{String, [] as []ˢ, ◌∷◌ as ◌∷ˢ◌}
-use Rattle.meaning.specs.declared.Read.{Read}
-use Rattle.meaning.specs.declared.Read.TheVariants.{Number, Bad}
 
 -- a text that is written out, as bytes
 abbrev pub bytes : String → List ℕ
@@ -15,7 +13,7 @@ unfoldable pub stands : List ℕ → List ℕ → ℕ → Bool
 stands [] s at = true
 stands (c ∷ cs) s at = cond (ltb at (length s)) (cond (eqb (get_or s at 0) c) (stands cs s (at + 1)) false) false
 
--- ---- a number at a place: decimal, in signed 32 bits, no leading zero, no plus, no -0
+-- ---- a number at a place, and the place behind it, or none: decimal, in signed 32 bits, no leading zero, no plus, no -0
 
 abbrev pub is_digit : ℕ → Bool
 is_digit c = cond (ltb c 48) false (ltb c 58)
@@ -34,24 +32,20 @@ value_of v (c ∷ cs) = value_of (v * 10 + (c - 48)) cs
 abbrev pub is_plain : ℕ → ℕ → Bool
 is_plain k c = cond (eqb k 0) false (cond (eqb k 1) true (not (eqb c 48)))
 
-abbrev pub pick_read : Bool → Read → Read → Read
-pick_read true a b = a
-pick_read false a b = b
-
 -- a value with its sign, if it is in range; `next` is the place behind it
-abbrev pub ranged : Bool → ℕ → ℕ → Read
-ranged true v next = pick_read (eqb v 0) Bad (pick_read (leb v 2147483648) (Number (negsuc (v - 1)) next) Bad)
-ranged false v next = pick_read (ltb v 2147483648) (Number (pos v) next) Bad
+abbrev pub ranged : Bool → ℕ → ℕ → Option (ℤ × ℕ)
+ranged true v next = cond (eqb v 0) None (cond (leb v 2147483648) (Some (negsuc (v - 1), next)) None)
+ranged false v next = cond (ltb v 2147483648) (Some (pos v, next)) None
 
-unfoldable pub unsigned_at : Bool → List ℕ → ℕ → Read
+unfoldable pub unsigned_at : Bool → List ℕ → ℕ → Option (ℤ × ℕ)
 unsigned_at negative s p =
-    pick_read (is_plain (span (drop p s)) (get_or s p 0))
+    cond (is_plain (span (drop p s)) (get_or s p 0))
     (ranged negative (value_of 0 (take (span (drop p s)) (drop p s))) (p + span (drop p s)))
-    Bad
+    None
 
 -- 45 is the sign -
-unfoldable pub number_at : List ℕ → ℕ → Read
-number_at s at = pick_read (eqb (get_or s at 0) 45) (unsigned_at true s (at + 1)) (unsigned_at false s at)
+unfoldable pub number_at : List ℕ → ℕ → Option (ℤ × ℕ)
+number_at s at = cond (eqb (get_or s at 0) 45) (unsigned_at true s (at + 1)) (unsigned_at false s at)
 
 -- ---- a number written
 

@@ -171,10 +171,3 @@ pub const ROW_LINE_ROOM: usize = 63;
 pub const OUT_LINE_ROOM: usize = 41;
 
 pub const TEXT_ROOM: usize = HEAD_ROOM + MOST_ROWS * ROW_LINE_ROOM + MOST_TARGETS * OUT_LINE_ROOM;
-
-// A number at a place of a text and the place behind it, or that none stands there.
-#[derive(Clone, Copy)]
-pub enum Read {
-    Number(i32, usize),
-    Bad,
-}

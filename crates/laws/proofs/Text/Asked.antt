@@ -11,14 +11,14 @@ use lib.ListN.{length, get_or}
 use borrow.Author.Tests.{leb-true}
 use mir.Syntax.{w32}
 use mir.Val.{SFits}
+use Rattle.std.specs.Prelude.{Some, None}
 use Rattle.meaning.specs.declared.Head.{Head}
-use Rattle.meaning.specs.declared.Read.TheVariants.{Number}
 use Rattle.meaning.specs.Text.{bytes, stands, number_at}
-use Rattle.meaning.specs.Forms.{Line, good, bad, front, line_at, bits_form, input_form}
+use Rattle.meaning.specs.Forms.{Line, front, line_at, bits_form, input_form}
 use Rattle.meaning.specs.Job.{most_bytes, most_job_targets, Asked, Job, asks, malformed, next, only, report_at, numbers, targets_at, job_of}
-use Rattle.laws.proofs.Text.Numerals.{number_read}
+use Rattle.laws.proofs.Text.Numerals.{no_some, under_test, number_read}
 use Rattle.laws.proofs.Text.Bytes.{stands_within}
-use Rattle.laws.proofs.Text.Lines.{no_line, cond_line, read_line, front_line}
+use Rattle.laws.proofs.Text.Lines.{read_line, front_line, good_is}
 use Rattle.laws.proofs.Text.Jobs.{cond_job, next_job}
 
 -- ---- good lines
@@ -29,7 +29,7 @@ record Run (s : List ℕ) (at : ℕ) (zs : List ℤ) (q : ℕ) : Type 0 where
   inside : q ≤ length s
   fit : (k : ℕ) → SFits w32 (get_or zs k (pos 0))
 
-run_more : (s : List ℕ) (at : ℕ) (z : ℤ) (p : ℕ) (ys : List ℤ) (q : ℕ) → number_at s at ≡ Number z p → Run s (p + 1) ys q → Run s at (z ∷ ys) q
+run_more : (s : List ℕ) (at : ℕ) (z : ℤ) (p : ℕ) (ys : List ℤ) (q : ℕ) → number_at s at ≡ Some (z, p) → Run s (p + 1) ys q → Run s at (z ∷ ys) q
 run_more s at z p ys q e w =
     let (l, f) = number_read s at z p e in
     let h = w.taken in
@@ -45,36 +45,32 @@ run_none s p e =
     record { taken = omega arith; inside = omega arith; fit = λ k. record { sfits = omega arith } }
 
 -- behind a number: a comma and further numbers, or a line feed
-run_by : (s : List ℕ) (at : ℕ) (z : ℤ) (p : ℕ) (l : Line (List ℤ)) (b : Bool) (zs : List ℤ) (q : ℕ) → number_at s at ≡ Number z p
-    → ((ys : List ℤ) → l ≡ good ys q → Run s (p + 1) ys q)
-    → cond b (front z l) (cond (stands (bytes "\n") s p) (good (z ∷ []) (p + 1)) bad) ≡ good zs q
+run_by : (s : List ℕ) (at : ℕ) (z : ℤ) (p : ℕ) (l : Line (List ℤ)) (b : Bool) (zs : List ℤ) (q : ℕ) → number_at s at ≡ Some (z, p)
+    → ((ys : List ℤ) → l ≡ Some (ys, q) → Run s (p + 1) ys q)
+    → cond b (front z l) (cond (stands (bytes "\n") s p) (Some (z ∷ [], p + 1)) None) ≡ Some (zs, q)
     → Run s at zs q
 run_by s at z p l true zs q r rest e =
     let (ys, i, g) = front_line z l e in
     subst (λ xs. Run s at xs q) (sym i) (run_more s at z p ys q r (rest ys g))
 run_by s at z p l false zs q r rest e =
-    let (t, g) = cond_line (stands (bytes "\n") s p) (good (z ∷ []) (p + 1)) e in
-    let i : z ∷ [] ≡ zs = cc in
-    let k : p + 1 ≡ q = cc in
-    subst (λ xs. Run s at xs q) i (subst (λ n. Run s at (z ∷ []) n) k (run_more s at z p [] (p + 1) r (run_none s p t)))
+    let (t, g) = under_test (stands (bytes "\n") s p) (Some (z ∷ [], p + 1)) e in
+    good_is (Run s at) g (run_more s at z p [] (p + 1) r (run_none s p t))
 
-run_of : (most : ℕ) (s : List ℕ) (at : ℕ) (zs : List ℤ) (q : ℕ) → numbers most s at ≡ good zs q → Run s at zs q
+run_of : (most : ℕ) (s : List ℕ) (at : ℕ) (zs : List ℤ) (q : ℕ) → numbers most s at ≡ Some (zs, q) → Run s at zs q
 unfolding numbers
-run_of zero s at zs q e = no_line e
+run_of zero s at zs q e = no_some e
 run_of (suc most) s at zs q e =
     let (z, p, r, g) = read_line (number_at s at) _ e in
     run_by s at z p (numbers most s (p + 1)) (stands (bytes ",") s p) zs q r (λ ys. run_of most s (p + 1) ys q) g
 
-run_line : (s : List ℕ) (at : ℕ) (zs : List ℤ) (q : ℕ) → targets_at s at ≡ good zs q → Run s (at + 8) zs q
+run_line : (s : List ℕ) (at : ℕ) (zs : List ℤ) (q : ℕ) → targets_at s at ≡ Some (zs, q) → Run s (at + 8) zs q
 unfolding targets_at
-run_line s at zs q e = let (t, f) = cond_line (stands (bytes "targets=") s at) _ e in go (stands (bytes "\n") s (at + 8)) refl f
+run_line s at zs q e = let (t, f) = under_test (stands (bytes "targets=") s at) _ e in go (stands (bytes "\n") s (at + 8)) refl f
   where
-    go : (b : Bool) → stands (bytes "\n") s (at + 8) ≡ b → cond b (good [] (at + 9)) (numbers (length s) s (at + 8)) ≡ good zs q → Run s (at + 8) zs q
+    go : (b : Bool) → stands (bytes "\n") s (at + 8) ≡ b → cond b (Some ([], at + 9)) (numbers (length s) s (at + 8)) ≡ Some (zs, q) → Run s (at + 8) zs q
     go true h f =
         let l = stands_within (bytes "\n") s (at + 8) h in
-        let i : [] ≡ zs = cc in
-        let k : at + 9 ≡ q = cc in
-        subst (λ xs. Run s (at + 8) xs q) i (record { taken = omega arith; inside = omega arith; fit = λ k. record { sfits = omega arith } })
+        good_is (Run s (at + 8)) f (record { taken = omega arith; inside = omega arith; fit = λ k. record { sfits = omega arith } })
     go false h f = run_of (length s) s (at + 8) zs q f
 
 -- ---- a job that asks
@@ -83,7 +79,7 @@ record Fits (j : Asked) : Type 0 where
   few : length j.targets ≤ most_job_targets
   targets : (k : ℕ) → SFits w32 (get_or j.targets k (pos 0))
 
-fits_by : (s : List ℕ) (h : Head) (ts : List ℤ) (at to : ℕ) (j : Asked) → length s ≤ most_bytes → targets_at s at ≡ good ts to
+fits_by : (s : List ℕ) (h : Head) (ts : List ℤ) (at to : ℕ) (j : Asked) → length s ≤ most_bytes → targets_at s at ≡ Some (ts, to)
     → asks (record { head = h; targets = ts }) ≡ asks j → Fits j
 fits_by s h ts at to j l m e =
     let n = run_line s at ts to m in
@@ -122,8 +118,8 @@ up_cond true x line most h k = h
 up_cond false x line most h k = k
 
 up_next : {A : Type 0} (l : Line A) (line : ℕ) (k : A → ℕ → ℕ → Job) (most : ℕ) → line ≤ most → ((a : A) (p : ℕ) → UpTo most (k a (line + 1) p)) → UpTo most (next l line k)
-up_next (good a p) line k most h f = f a p
-up_next bad line k most h f = h
+up_next (Some (a, p)) line k most h f = f a p
+up_next None line k most h f = h
 
 up_of : (s : List ℕ) → UpTo 5 (job_of s)
 unfolding job_of

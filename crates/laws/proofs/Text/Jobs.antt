@@ -9,9 +9,10 @@ use native.Mathlib.Omega.{arith}
 use lib.Dec.{leb, le→leb}
 use lib.IntN.{ℤ, pos, negsuc}
 use lib.ListN.{length}
+use Rattle.std.specs.Prelude.{Some, None}
 use Rattle.meaning.specs.declared.Refusal.{Refusal}
 use Rattle.meaning.specs.declared.Refusal.TheVariants as no
-use Rattle.meaning.specs.Forms.{Line, good, bad}
+use Rattle.meaning.specs.Forms.{Line}
 use Rattle.meaning.specs.Limits.{most_rows}
 use Rattle.meaning.specs.Job.{Asked, Job, asks, malformed, next, job_of, natural, bits_of, input_of, rows_of, job_order}
 use Rattle.meaning.specs.Listing.{answer_of, or_refused, refused_line, reply_to, listing, job_text}
@@ -29,9 +30,9 @@ cond_job true x line e = (refl, e)
 cond_job false x line e = no_job e
 
 pub next_job : {A : Type 0} (l : Line A) (line : ℕ) (k : A → ℕ → ℕ → Job) {j : Asked} → next l line k ≡ asks j
-    → (a : A) × (p : ℕ) × (l ≡ good a p) × (k a (line + 1) p ≡ asks j)
-next_job (good a p) line k e = (a, p, refl, e)
-next_job bad line k e = no_job e
+    → (a : A) × (p : ℕ) × (l ≡ Some (a, p)) × (k a (line + 1) p ≡ asks j)
+next_job (Some (a, p)) line k e = (a, p, refl, e)
+next_job None line k e = no_job e
 
 -- ---- what is printed
 

@@ -13,14 +13,14 @@ use lib.Seq.{drop-append_seam, get_or-append_seam}
 use mir.Syntax.{w32}
 use mir.Val.{SFits}
 use borrow.Author.Tests.{lt-ltb, eq-eqb, ltb-true, eqb-true, not-true}
-use Rattle.meaning.specs.declared.Read.{Read}
-use Rattle.meaning.specs.declared.Read.TheVariants.{Number, Bad}
+use Rattle.std.specs.Prelude.{Option, Some, None}
+use Rattle.std.proofs.lemmas.Option.{same_Some, some_pair_parts}
 use Rattle.meaning.specs.Basics.{every}
 use Rattle.meaning.specs.Text.{bytes, is_digit, span, stands, number_at, text_of}
-use Rattle.meaning.specs.Forms.{line_of, Line, good, bad, on_read, front, read_number, read_byte, line_at, report_text}
+use Rattle.meaning.specs.Forms.{line_of, Line, on_read, front, read_number, read_byte, line_at, report_text}
 use Rattle.meaning.specs.Job.{only, report_at}
 use Rattle.laws.proofs.Lists.Tests.{both_of, true_of}
-use Rattle.laws.proofs.Text.Numerals.{rest_cons, unsigned_none, number_plain, number_read}
+use Rattle.laws.proofs.Text.Numerals.{rest_cons, unsigned_none, number_plain, no_some, under_test, number_read}
 use Rattle.laws.proofs.Text.ReadBack.{read_back, number_text}
 
 -- ---- what is left of a text at a place
@@ -68,21 +68,14 @@ taken_on {t = t} {u = u} a b = record { more = b.more; begins = a.begins ∙ ap 
 
 -- ---- what a good line was made of
 
-pub no_line : {A B : Type 0} {a : A} {p : ℕ} → bad ≡ good a p → B
-no_line e = let x : ◌≡◌ {A = ℕ} 0 1 = cc in let y : ⊥ = omega arith in absurd y
+pub read_line : {A : Type 0} (r : Option (ℤ × ℕ)) (k : ℤ → ℕ → Line A) {a : A} {q : ℕ} → on_read r k ≡ Some (a, q)
+    → (z : ℤ) × (p : ℕ) × (r ≡ Some (z, p)) × (k z p ≡ Some (a, q))
+read_line (Some (z, p)) k e = (z, p, refl, e)
+read_line None k e = no_some e
 
-pub cond_line : {A : Type 0} (b : Bool) (l : Line A) {a : A} {p : ℕ} → cond b l bad ≡ good a p → (b ≡ true) × (l ≡ good a p)
-cond_line true l e = (refl, e)
-cond_line false l e = no_line e
-
-pub read_line : {A : Type 0} (r : Read) (k : ℤ → ℕ → Line A) {a : A} {q : ℕ} → on_read r k bad ≡ good a q
-    → (z : ℤ) × (p : ℕ) × (r ≡ Number z p) × (k z p ≡ good a q)
-read_line (Number z p) k e = (z, p, refl, e)
-read_line Bad k e = no_line e
-
-pub front_line : (z : ℤ) (l : Line (List ℤ)) {zs : List ℤ} {q : ℕ} → front z l ≡ good zs q → (ys : List ℤ) × (zs ≡ z ∷ ys) × (l ≡ good ys q)
-front_line z (good ys p) e = (ys, cc, cc)
-front_line z bad e = no_line e
+pub front_line : (z : ℤ) (l : Line (List ℤ)) {zs : List ℤ} {q : ℕ} → front z l ≡ Some (zs, q) → (ys : List ℤ) × (zs ≡ z ∷ ys) × (l ≡ Some (ys, q))
+front_line z (Some (ys, p)) e = let (i, q) = some_pair_parts _ _ _ _ e in (ys, sym i, ap (λ (n : ℕ). Some (ys, n)) q)
+front_line z None e = no_some e
 
 -- ---- bytes
 
@@ -118,18 +111,18 @@ stands_not t {s} {at} l h = go (stands t s at) refl
 -- ---- a number
 
 module _ {s : List ℕ} {at : ℕ} where
-  pub number_taken : {rest : List ℕ} {z : ℤ} {p : ℕ} → Left s at rest → number_at s at ≡ Number z p → SFits w32 z × Taken s rest (text_of z) p
+  pub number_taken : {rest : List ℕ} {z : ℤ} {p : ℕ} → Left s at rest → number_at s at ≡ Some (z, p) → SFits w32 z × Taken s rest (text_of z) p
   number_taken {z = z} {p = p} l e =
       let (q, w) = number_text s at z p e in
       ((number_read s at z p e).1, take_on (text_of z) (drop p s) (sym (left_drop l) ∙ w) q l)
 
-  pub number_back : (z : ℤ) (rest : List ℕ) → SFits w32 z → span rest ≡ 0 → Left s at (text_of z ++ rest) → number_at s at ≡ Number z (at + length (text_of z))
+  pub number_back : (z : ℤ) (rest : List ℕ) → SFits w32 z → span rest ≡ 0 → Left s at (text_of z ++ rest) → number_at s at ≡ Some (z, at + length (text_of z))
   number_back z rest h e l =
       ap (λ (x : List ℕ). number_at x at) l.whole ∙ ap (number_at (l.passed ++ (text_of z ++ rest))) l.place ∙ read_back z l.passed rest h e
-      ∙ ap (λ (x : ℕ). Number z (x + length (text_of z))) (sym l.place)
+      ∙ ap (λ (x : ℕ). Some (z, x + length (text_of z))) (sym l.place)
 
   -- a number begins with its sign or a digit
-  pub number_not : {c : ℕ} {rest : List ℕ} → is_digit c ≡ false → ¬ (c ≡ 45) → Left s at (c ∷ rest) → number_at s at ≡ Bad
+  pub number_not : {c : ℕ} {rest : List ℕ} → is_digit c ≡ false → ¬ (c ≡ 45) → Left s at (c ∷ rest) → number_at s at ≡ None
   number_not {c} {rest} d n l =
       number_plain s at (λ e. n (sym (left_first l) ∙ e))
       ∙ unsigned_none false s at (ap span (left_drop l) ∙ ap (λ (b : Bool). cond b (suc (span rest)) 0) d)
@@ -179,8 +172,8 @@ line_front (c ∷ t) form zs h =
 abbrev LineTaken : List ℕ → List ℕ → List ℕ → List ℤ → ℕ → Type 0
 LineTaken form s rest zs p = AllFit zs × (blanks form ≡ length zs) × Taken s rest (line_of form zs) p
 
-module _ (c : ℕ) (cs s : List ℕ) (rec : (at : ℕ) (rest : List ℕ) (zs : List ℤ) (p : ℕ) → Left s at rest → line_at cs s at ≡ good zs p → LineTaken cs s rest zs p) where
-  taken_by : (b : Bool) {at : ℕ} {rest : List ℕ} {zs : List ℤ} {p : ℕ} → eqb c 35 ≡ b → Left s at rest → cond b read_number (read_byte c) s at (line_at cs s) ≡ good zs p
+module _ (c : ℕ) (cs s : List ℕ) (rec : (at : ℕ) (rest : List ℕ) (zs : List ℤ) (p : ℕ) → Left s at rest → line_at cs s at ≡ Some (zs, p) → LineTaken cs s rest zs p) where
+  taken_by : (b : Bool) {at : ℕ} {rest : List ℕ} {zs : List ℤ} {p : ℕ} → eqb c 35 ≡ b → Left s at rest → cond b read_number (read_byte c) s at (line_at cs s) ≡ Some (zs, p)
       → AllFit zs × (cond b 1 0 + blanks cs ≡ length zs) × Taken s rest (line_of (c ∷ cs) zs) p
   taken_by true {at} {rest} {zs} {p} h l e =
       let (z, q, r, f) = read_line (number_at s at) _ e in
@@ -191,18 +184,17 @@ module _ (c : ℕ) (cs s : List ℕ) (rec : (at : ℕ) (rest : List ℕ) (zs : L
       let k : 1 + blanks cs ≡ suc (length ys) = omega arith in
       subst (λ xs. AllFit xs × (1 + blanks cs ≡ length xs) × Taken s rest (line_of (c ∷ cs) xs) p) (sym i) ((w, ws), k, whole)
   taken_by false {at} {rest} {zs} {p} h l e =
-      let (b, f) = cond_line (stands (c ∷ []) s at) _ e in
+      let (b, f) = under_test (stands (c ∷ []) s at) _ e in
       let t = stands_taken (c ∷ []) l b in
       let (ws, n, u) = rec (at + 1) t.more zs p t.left f in
       (ws, omega arith, subst (λ x. Taken s rest x p) (sym (line_byte c cs zs h)) (taken_on t u))
 
-line_taken : (form : List ℕ) {s : List ℕ} {at : ℕ} {rest : List ℕ} {zs : List ℤ} {p : ℕ} → Left s at rest → line_at form s at ≡ good zs p
+line_taken : (form : List ℕ) {s : List ℕ} {at : ℕ} {rest : List ℕ} {zs : List ℤ} {p : ℕ} → Left s at rest → line_at form s at ≡ Some (zs, p)
     → AllFit zs × (blanks form ≡ length zs) × Taken s rest (line_of form zs) p
 unfolding line_at line_of
 line_taken [] {s} {at} {rest} {zs} {p} l e =
-    let i : [] ≡ zs = cc in
-    let q : p ≡ at + 0 = (cc) ∙ sym (add-zero at) in
-    subst (λ xs. LineTaken [] s rest xs p) i (tt, refl, take_on [] rest refl q l)
+    let (i, q) = some_pair_parts _ _ _ _ e in
+    subst (λ xs. LineTaken [] s rest xs p) i (tt, refl, take_on [] rest refl (sym q ∙ sym (add-zero at)) l)
 line_taken (c ∷ cs) {s} l e = taken_by c cs s (λ at rest zs p. line_taken cs) (eqb c 35) refl l e
 
 -- ---- and what is written is read
@@ -219,9 +211,9 @@ text_stop (c ∷ cs) zs rest h =
     ap (λ (l : List ℕ). span (l ++ rest)) (line_byte c cs zs (not-true (eqb c 35) (true_of (is_solid c) p.1))) ∙ stop_by (is_digit c) (span (line_of cs zs ++ rest)) p.0
 
 module _ (c : ℕ) (cs s rest : List ℕ) (h : T (cond (eqb c 35) (does_end cs) true))
-    (rec : (at : ℕ) (zs : List ℤ) → blanks cs ≡ length zs → AllFit zs → Left s at (line_of cs zs ++ rest) → line_at cs s at ≡ good zs (at + length (line_of cs zs))) where
+    (rec : (at : ℕ) (zs : List ℤ) → blanks cs ≡ length zs → AllFit zs → Left s at (line_of cs zs ++ rest) → line_at cs s at ≡ Some (zs, at + length (line_of cs zs))) where
   back_by : (b : Bool) {at : ℕ} → eqb c 35 ≡ b → (zs : List ℤ) → cond b 1 0 + blanks cs ≡ length zs → AllFit zs → Left s at (line_of (c ∷ cs) zs ++ rest)
-      → cond b read_number (read_byte c) s at (line_at cs s) ≡ good zs (at + length (line_of (c ∷ cs) zs))
+      → cond b read_number (read_byte c) s at (line_at cs s) ≡ Some (zs, at + length (line_of (c ∷ cs) zs))
   back_by true e [] n w l = absurd (omega arith)
   back_by true {at} e (z ∷ zs) n w l =
       let i = line_number c cs z zs e in
@@ -240,9 +232,9 @@ module _ (c : ℕ) (cs s rest : List ℕ) (h : T (cond (eqb c 35) (does_end cs) 
       rw (stands_back (c ∷ []) (line_of cs zs ++ rest) here, I, m) refl
 
 line_back : (form : List ℕ) {s : List ℕ} {at : ℕ} (rest : List ℕ) → T (is_spaced form) → (zs : List ℤ) → blanks form ≡ length zs → AllFit zs
-    → Left s at (line_of form zs ++ rest) → line_at form s at ≡ good zs (at + length (line_of form zs))
+    → Left s at (line_of form zs ++ rest) → line_at form s at ≡ Some (zs, at + length (line_of form zs))
 unfolding line_at line_of
-line_back [] {at = at} rest h [] n w l = ap (good []) (sym (add-zero at))
+line_back [] {at = at} rest h [] n w l = ap (λ (p : ℕ). Some ([], p)) (sym (add-zero at))
 line_back [] rest h (z ∷ zs) n w l = absurd (omega arith)
 line_back (c ∷ cs) {s} rest h zs n w l =
     let p = both_of (cond (eqb c 35) (does_end cs) true) (is_spaced cs) h in
@@ -251,11 +243,11 @@ line_back (c ∷ cs) {s} rest h zs n w l =
 -- ---- a reader of lines of one kind is exact: it reads the texts of the things that are in range, and no others
 
 pub record Exact {A : Type 0} (Ok : A → Type 0) (text : A → List ℕ) (s : List ℕ) (read : ℕ → Line A) : Type 0 where
-  pub taken : (at : ℕ) (rest : List ℕ) (a : A) (p : ℕ) → Left s at rest → read at ≡ good a p → Ok a × Taken s rest (text a) p
-  pub back : (at : ℕ) (rest : List ℕ) (a : A) → Ok a → Left s at (text a ++ rest) → read at ≡ good a (at + length (text a))
+  pub taken : (at : ℕ) (rest : List ℕ) (a : A) (p : ℕ) → Left s at rest → read at ≡ Some (a, p) → Ok a × Taken s rest (text a) p
+  pub back : (at : ℕ) (rest : List ℕ) (a : A) → Ok a → Left s at (text a ++ rest) → read at ≡ Some (a, at + length (text a))
 
-pub good_is : {A : Type 0} (P : A → ℕ → Type 0) {a b : A} {p q : ℕ} → good a p ≡ good b q → P a p → P b q
-good_is P {a} {b} {p} {q} e h = let i : a ≡ b = cc in let k : p ≡ q = cc in subst (λ x. P x q) i (subst (P a) k h)
+pub good_is : {A : Type 0} (P : A → ℕ → Type 0) {a b : A} {p q : ℕ} → ◌≡◌ {A = Line A} (Some (a, p)) (Some (b, q)) → P a p → P b q
+good_is {A} P e h = subst (λ (r : A × ℕ). P r.0 r.1) (same_Some _ _ e) h
 
 -- the range and the texts in other words
 pub exact_as : {A : Type 0} {Ok In : A → Type 0} {text words : A → List ℕ} {s : List ℕ} {read : ℕ → Line A} → ((a : A) → Ok a ↔ In a) → ((a : A) → text a ≡ words a)
@@ -263,7 +255,7 @@ pub exact_as : {A : Type 0} {Ok In : A → Type 0} {text words : A → List ℕ}
 exact_as {s = s} {read} o e x = record {
   taken = λ at rest a p l g. let (w, t) = x.taken at rest a p l g in ((o a).0 w, subst (λ y. Taken s rest y p) (e a) t);
   back = λ at rest a w l.
-      subst (λ y. read at ≡ good a (at + length y)) (e a) (x.back at rest a ((o a).1 w) (left_is (ap (λ (y : List ℕ). y ++ rest) (sym (e a))) l));
+      subst (λ y. read at ≡ Some (a, at + length y)) (e a) (x.back at rest a ((o a).1 w) (left_is (ap (λ (y : List ℕ). y ++ rest) (sym (e a))) l));
 }
 
 -- a form's line
@@ -300,31 +292,31 @@ module _ (t : List ℕ) (solid : T (every is_solid t)) (one : blanks (t ++ bytes
       single rest p (z ∷ []) w n u = (w.0, subst (λ x. Taken s rest x p) (form_text z) u)
       single rest p (z ∷ y ∷ zs) w n u = absurd (omega arith)
 
-      by : (at : ℕ) (rest : List ℕ) (z : ℤ) (p : ℕ) → Left s at rest → (line : Line (List ℤ)) → line_at form s at ≡ line → only line ≡ good z p
+      by : (at : ℕ) (rest : List ℕ) (z : ℤ) (p : ℕ) → Left s at rest → (line : Line (List ℤ)) → line_at form s at ≡ line → only line ≡ Some (z, p)
           → SFits w32 z × Taken s rest (text z) p
-      by at rest z p l (good zs q) h e =
+      by at rest z p l (Some (zs, q)) h e =
           let ((w, n), u) = lines.taken at rest zs q l h in
           good_is (λ x k. SFits w32 x × Taken s rest (text x) k) e (single rest q zs w (sym one ∙ n) u)
-      by at rest z p l bad h e = no_line e
+      by at rest z p l None h e = no_some e
 
-      again : (at : ℕ) (rest : List ℕ) (z : ℤ) → SFits w32 z → Left s at (text z ++ rest) → only (line_at form s at) ≡ good z (at + length (text z))
+      again : (at : ℕ) (rest : List ℕ) (z : ℤ) → SFits w32 z → Left s at (text z ++ rest) → only (line_at form s at) ≡ Some (z, at + length (text z))
       again at rest z w l =
           ap only (lines.back at rest (z ∷ []) ((w, tt), one) (left_is (ap (λ (x : List ℕ). x ++ rest) (sym (form_text z))) l))
-          ∙ ap (λ (x : List ℕ). good z (at + length x)) (form_text z)
+          ∙ ap (λ (x : List ℕ). Some (z, at + length x)) (form_text z)
 
 -- the report line
-report_taken : (s : List ℕ) (at : ℕ) (rest : List ℕ) (b : Bool) (p : ℕ) → Left s at rest → report_at s at ≡ good b p → Unit {0} × Taken s rest (report_text b) p
+report_taken : (s : List ℕ) (at : ℕ) (rest : List ℕ) (b : Bool) (p : ℕ) → Left s at rest → report_at s at ≡ Some (b, p) → Unit {0} × Taken s rest (report_text b) p
 unfolding report_at
 report_taken s at rest b p l e = go (stands (report_text true) s at) refl e
   where
     go : (c : Bool) → stands (report_text true) s at ≡ c
-        → cond c (good true (at + 13)) (cond (stands (report_text false) s at) (good false (at + 11)) bad) ≡ good b p → Unit {0} × Taken s rest (report_text b) p
+        → cond {A = Line Bool} c (Some (true, at + 13)) (cond (stands (report_text false) s at) (Some (false, at + 11)) None) ≡ Some (b, p) → Unit {0} × Taken s rest (report_text b) p
     go true h f = good_is (λ x k. Unit {0} × Taken s rest (report_text x) k) f (tt, stands_taken (report_text true) l h)
     go false h f =
-        let (i, g) = cond_line (stands (report_text false) s at) _ f in
+        let (i, g) = under_test (stands (report_text false) s at) _ f in
         good_is (λ x k. Unit {0} × Taken s rest (report_text x) k) g (tt, stands_taken (report_text false) l i)
 
-report_back : (s : List ℕ) (at : ℕ) (rest : List ℕ) (b : Bool) → Unit {0} → Left s at (report_text b ++ rest) → report_at s at ≡ good b (at + length (report_text b))
+report_back : (s : List ℕ) (at : ℕ) (rest : List ℕ) (b : Bool) → Unit {0} → Left s at (report_text b ++ rest) → report_at s at ≡ Some (b, at + length (report_text b))
 unfolding report_at
 report_back s at rest true w l = rw (stands_back (report_text true) rest l) refl
 report_back s at rest false w l = rw (stands_not (report_text true) l other, stands_back (report_text false) rest l) refl

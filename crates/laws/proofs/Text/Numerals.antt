@@ -9,15 +9,15 @@ use native.Mathlib.Nat.{mul_assoc, mul-le-mul_right, pow-succ', pow-le-pow_right
 use native.Mathlib.Numerals.{add-one}
 use native.Mathlib.Omega.{arith}
 use lib.Dec.{eqb, leb, ltb}
-use lib.IntN.{ℤ, pos, negsuc}
+use lib.IntN.{ℤ}
 use lib.ListN.{length, take, drop, get_or, drop_of_length-le, get_or-eq_default}
 use lib.Seq.{drop-cons}
 use borrow.Author.Tests.{lt-ltb, le-ltb, ltb-true, ltb-false, eq-eqb, ne_eqb, leb-true, lt-leb, eqb-true, eqb-false, not-true}
 use mir.Syntax.{w32}
 use mir.Val.{SFits}
-use Rattle.meaning.specs.declared.Read.{Read}
-use Rattle.meaning.specs.declared.Read.TheVariants.{Number, Bad}
-use Rattle.meaning.specs.Text.{is_digit, span, value_of, ranged, is_plain, unsigned_at, number_at, pick_read, decimal_in, signed_text, text_of}
+use Rattle.std.specs.Prelude.{Option, Some, None}
+use Rattle.std.proofs.lemmas.Option.{cond_some, none-some}
+use Rattle.meaning.specs.Text.{is_digit, span, value_of, ranged, is_plain, unsigned_at, number_at, decimal_in, signed_text, text_of}
 
 -- ---- a run of digits, byte by byte
 
@@ -82,7 +82,7 @@ value_low v (suc k) (x ∷ xs) h =
     let e : v * 10 ^ suc k ≡ (v * 10) * 10 ^ k = ap (λ (q : ℕ). v * q) (pow-succ' 10 k) ∙ sym (mul_assoc v 10 (10 ^ k)) in
     omega arith
 
-ranged_big : (n : Bool) (v next : ℕ) → 2147483648 < v → ranged n v next ≡ Bad
+ranged_big : (n : Bool) (v next : ℕ) → 2147483648 < v → ranged n v next ≡ None
 ranged_big true v next h = simp (ne_eqb v 0 (λ (e : v ≡ 0). omega arith), lt-leb _ _ h)
 ranged_big false v next h = simp (le-ltb v 2147483648 (omega arith))
 
@@ -115,11 +115,11 @@ value_long s p k l ek h e =
 -- ---- the number at a place
 
 module _ (n : Bool) (s : List ℕ) (p : ℕ) where
-  pub unsigned_none : span (drop p s) ≡ 0 → unsigned_at n s p ≡ Bad
+  pub unsigned_none : span (drop p s) ≡ 0 → unsigned_at n s p ≡ None
   unfolding unsigned_at
   unsigned_none e = rw e refl
 
-  pub unsigned_bad : is_plain (span (drop p s)) (get_or s p 0) ≡ false → unsigned_at n s p ≡ Bad
+  pub unsigned_bad : is_plain (span (drop p s)) (get_or s p 0) ≡ false → unsigned_at n s p ≡ None
   unfolding unsigned_at
   unsigned_bad e = rw e refl
 
@@ -128,7 +128,7 @@ module _ (n : Bool) (s : List ℕ) (p : ℕ) where
   unfolding unsigned_at
   unsigned_good e = rw e refl
 
-  pub unsigned_long : p < length s → 10 < span (drop p s) → is_plain (span (drop p s)) (get_or s p 0) ≡ true → unsigned_at n s p ≡ Bad
+  pub unsigned_long : p < length s → 10 < span (drop p s) → is_plain (span (drop p s)) (get_or s p 0) ≡ true → unsigned_at n s p ≡ None
   unsigned_long l h e = unsigned_good e ∙ ranged_big n _ _ (value_long s p (span (drop p s)) l refl h e)
 
 module _ (s : List ℕ) (at : ℕ) where
@@ -140,15 +140,24 @@ module _ (s : List ℕ) (at : ℕ) where
   unfolding number_at
   number_plain e = rw (ne_eqb _ _ e) refl
 
-  pub number_none : length s ≤ at → number_at s at ≡ Bad
+  pub number_none : length s ≤ at → number_at s at ≡ None
   number_none h =
       let z : get_or s at 0 ≡ 0 = get_or-eq_default s 0 h in
       number_plain (λ (e : get_or s at 0 ≡ 45). omega arith) ∙ unsigned_none false s at (span_end s h)
 
 -- ---- a number that was read: it takes at least one byte, fits signed 32 bits, and its text is its sign and its value's
 
-no_number : {z : ℤ} {p : ℕ} {A : Type 0} → Bad ≡ Number z p → A
-no_number e = let x : ◌≡◌ {A = ℕ} 0 1 = cc in let y : ⊥ = omega arith in absurd y
+pub no_some : {A B : Type 0} {a : A} → None ≡ Some a → B
+no_some {a = a} e = absurd (none-some a e)
+
+-- what is there under a test
+pub under_test : {A : Type 0} (b : Bool) (o : Option A) {a : A} → cond b o None ≡ Some a → (b ≡ true) × (o ≡ Some a)
+under_test true o e = (refl, e)
+under_test false o e = no_some e
+
+not_under_test : {A : Type 0} (b : Bool) (o : Option A) {a : A} → cond b None o ≡ Some a → (b ≡ false) × (o ≡ Some a)
+not_under_test true o e = no_some e
+not_under_test false o e = (refl, e)
 
 pub record Ranged (n : Bool) (v next : ℕ) (z : ℤ) (p : ℕ) : Type 0 where
   pub place : p ≡ next
@@ -156,63 +165,53 @@ pub record Ranged (n : Bool) (v next : ℕ) (z : ℤ) (p : ℕ) : Type 0 where
   pub small : v < 2 ^ 32
   pub text : text_of z ≡ signed_text n v
 
-ranged_is : {n : Bool} {v next : ℕ} {y z : ℤ} {p : ℕ} → SFits w32 y → v < 2 ^ 32 → text_of y ≡ signed_text n v → Number y next ≡ Number z p → Ranged n v next z p
-ranged_is {y = y} {z = z} f h t e = let j : y ≡ z = cc in record { place = cc; fits = rw j at f; small = h; text = ap text_of (sym j) ∙ t }
+ranged_is : {n : Bool} {v next : ℕ} {y z : ℤ} {p : ℕ} → SFits w32 y → v < 2 ^ 32 → text_of y ≡ signed_text n v → ◌≡◌ {A = ℤ × ℕ} (y, next) (z, p)
+    → Ranged n v next z p
+ranged_is {y = y} {z = z} f h t e =
+    let j : y ≡ z = ap (λ (r : ℤ × ℕ). r.0) e in
+    record { place = sym (ap (λ (r : ℤ × ℕ). r.1) e); fits = rw j at f; small = h; text = ap text_of (sym j) ∙ t }
 
-low_read : (v next : ℕ) (z : ℤ) (p : ℕ) (b : Bool) → leb v 2147483648 ≡ b → (v ≡ 0 → ⊥) → pick_read b (Number (negsuc (v - 1)) next) Bad ≡ Number z p
-    → Ranged true v next z p
-low_read v next z p true l h e =
-    let k = leb-true v 2147483648 l in
-    let i : suc (v - 1) ≡ v = omega arith in
-    ranged_is (record { sfits = omega arith }) (omega arith) (ap (signed_text true) i) e
-low_read v next z p false l h e = no_number e
-
-high_read : (v next : ℕ) (z : ℤ) (p : ℕ) (b : Bool) → ltb v 2147483648 ≡ b → pick_read b (Number (pos v) next) Bad ≡ Number z p → Ranged false v next z p
-high_read v next z p true l e = let k = ltb-true v 2147483648 l in ranged_is (record { sfits = k }) (omega arith) refl e
-high_read v next z p false l e = no_number e
-
-not_zero : (b : Bool) (r : Read) (z : ℤ) (p : ℕ) → pick_read b Bad r ≡ Number z p → (b ≡ false) × (r ≡ Number z p)
-not_zero true r z p e = no_number e
-not_zero false r z p e = (refl, e)
-
-ranged_read : (n : Bool) (v next : ℕ) (z : ℤ) (p : ℕ) → ranged n v next ≡ Number z p → Ranged n v next z p
+ranged_read : (n : Bool) (v next : ℕ) (z : ℤ) (p : ℕ) → ranged n v next ≡ Some (z, p) → Ranged n v next z p
 ranged_read true v next z p e =
-    let (h, g) = not_zero (eqb v 0) _ z p e in
-    low_read v next z p (leb v 2147483648) refl (eqb-false v 0 h) g
-ranged_read false v next z p e = high_read v next z p (ltb v 2147483648) refl e
+    let (h, g) = not_under_test (eqb v 0) _ e in
+    let (l, i) = cond_some (leb v 2147483648) _ _ g in
+    let k = leb-true v 2147483648 l in
+    let m = eqb-false v 0 h in
+    let is : suc (v - 1) ≡ v = omega arith in
+    ranged_is (record { sfits = omega arith }) (omega arith) (ap (signed_text true) is) i
+ranged_read false v next z p e =
+    let (l, i) = cond_some (ltb v 2147483648) _ _ e in
+    let k = ltb-true v 2147483648 l in
+    ranged_is (record { sfits = k }) (omega arith) refl i
 
 plain_some : (k c : ℕ) → is_plain k c ≡ true → 0 < k
 plain_some zero c e = let x : ◌≡◌ {A = ℕ} 0 1 = cc in omega arith
 plain_some (suc k) c e = omega arith
 
-plain_by : (b : Bool) (r : Read) (z : ℤ) (p : ℕ) → pick_read b r Bad ≡ Number z p → (b ≡ true) × (r ≡ Number z p)
-plain_by true r z p e = (refl, e)
-plain_by false r z p e = no_number e
-
 -- the digits are plain, and say the number
-pub unsigned_read : (n : Bool) (s : List ℕ) (at : ℕ) (z : ℤ) (p : ℕ) → unsigned_at n s at ≡ Number z p
+pub unsigned_read : (n : Bool) (s : List ℕ) (at : ℕ) (z : ℤ) (p : ℕ) → unsigned_at n s at ≡ Some (z, p)
     → (is_plain (span (drop at s)) (get_or s at 0) ≡ true) × Ranged n (value_of 0 (take (span (drop at s)) (drop at s))) (at + span (drop at s)) z p
 unfolding unsigned_at
 unsigned_read n s at z p e =
     let k : ℕ = span (drop at s) in
-    let (h, r) = plain_by (is_plain k (get_or s at 0)) (ranged n (value_of 0 (take k (drop at s))) (at + k)) z p e in
+    let (h, r) = under_test (is_plain k (get_or s at 0)) (ranged n (value_of 0 (take k (drop at s))) (at + k)) e in
     (h, ranged_read n (value_of 0 (take k (drop at s))) (at + k) z p r)
 
 -- with a sign, or without
-pub sign_read : (s : List ℕ) (at : ℕ) (z : ℤ) (p : ℕ) → number_at s at ≡ Number z p
-    → ((get_or s at 0 ≡ 45) × (unsigned_at true s (at + 1) ≡ Number z p)) ⊎ (unsigned_at false s at ≡ Number z p)
+pub sign_read : (s : List ℕ) (at : ℕ) (z : ℤ) (p : ℕ) → number_at s at ≡ Some (z, p)
+    → ((get_or s at 0 ≡ 45) × (unsigned_at true s (at + 1) ≡ Some (z, p))) ⊎ (unsigned_at false s at ≡ Some (z, p))
 unfolding number_at
 sign_read s at z p e = go (eqb (get_or s at 0) 45) refl e
   where
-    go : (b : Bool) → eqb (get_or s at 0) 45 ≡ b → pick_read b (unsigned_at true s (at + 1)) (unsigned_at false s at) ≡ Number z p
-        → ((get_or s at 0 ≡ 45) × (unsigned_at true s (at + 1) ≡ Number z p)) ⊎ (unsigned_at false s at ≡ Number z p)
+    go : (b : Bool) → eqb (get_or s at 0) 45 ≡ b → cond b (unsigned_at true s (at + 1)) (unsigned_at false s at) ≡ Some (z, p)
+        → ((get_or s at 0 ≡ 45) × (unsigned_at true s (at + 1) ≡ Some (z, p))) ⊎ (unsigned_at false s at ≡ Some (z, p))
     go true h g = inl (eqb-true _ _ h, g)
     go false h g = inr g
 
-pub number_read : (s : List ℕ) (at : ℕ) (z : ℤ) (p : ℕ) → number_at s at ≡ Number z p → (at < p) × SFits w32 z
+pub number_read : (s : List ℕ) (at : ℕ) (z : ℤ) (p : ℕ) → number_at s at ≡ Some (z, p) → (at < p) × SFits w32 z
 number_read s at z p e = ⊎_elim (λ (_, g). let (l, f) = by true (at + 1) g in (omega arith, f)) (by false at) (sign_read s at z p e)
   where
-    by : (n : Bool) (i : ℕ) → unsigned_at n s i ≡ Number z p → (i < p) × SFits w32 z
+    by : (n : Bool) (i : ℕ) → unsigned_at n s i ≡ Some (z, p) → (i < p) × SFits w32 z
     by n i g = let (h, r) = unsigned_read n s i z p g in let k = plain_some (span (drop i s)) (get_or s i 0) h in let l = r.place in (omega arith, r.fits)
 
 -- ---- a number written

@@ -15,7 +15,7 @@ use lib.Seq.{append_snoc, take-append_seam, drop-append_seam, get_or-append-add,
 use mir.Syntax.{w32}
 use mir.Val.{SFits}
 use borrow.Author.Tests.{lt-ltb, le-ltb, ltb-true, ltb-false, ne_eqb, eqb-true, eqb-false, le-leb}
-use Rattle.meaning.specs.declared.Read.TheVariants.{Number}
+use Rattle.std.specs.Prelude.{Some}
 use Rattle.meaning.specs.Text.{is_digit, span, value_of, is_plain, ranged, unsigned_at, number_at, decimal_in, unsigned_text, signed_text, text_of}
 use Rattle.laws.proofs.Text.Numerals.{rest_cons, digit_range, span_le, plain_long, unsigned_read, sign_read, dec_small, dec_large, unsigned_good, number_minus, number_plain}
 
@@ -177,7 +177,7 @@ not_minus xs rest n h e =
 
 -- what was written anywhere in a text, with no digit after it, is read back
 pub read_back : (z : ℤ) (xs rest : List ℕ) → SFits w32 z → span rest ≡ 0
-    → number_at (xs ++ (text_of z ++ rest)) (length xs) ≡ Number z (length xs + length (text_of z))
+    → number_at (xs ++ (text_of z ++ rest)) (length xs) ≡ Some (z, length xs + length (text_of z))
 read_back (pos n) xs rest h e =
     let s : n < 2147483648 = h.sfits in
     number_plain (xs ++ (unsigned_text n ++ rest)) (length xs) (not_minus xs rest n (omega arith))
@@ -195,7 +195,7 @@ read_back (negsuc n) xs rest h e =
     ∙ ap (λ (j : ℕ). unsigned_at true t j) (sym k)
     ∙ ap (λ (l : List ℕ). unsigned_at true l (length ys)) (sym a)
     ∙ unsigned_text_lem true ys rest (suc n) (omega arith) e
-    ∙ rw (ne_eqb (suc n) 0 (λ x. omega arith), le-leb (suc n) 2147483648 (omega arith), q) (ap (λ (j : ℕ). Number (negsuc n) j) (omega arith))
+    ∙ rw (ne_eqb (suc n) 0 (λ x. omega arith), le-leb (suc n) 2147483648 (omega arith), q) (ap (λ (j : ℕ). Some (negsuc n, j)) (omega arith))
 
 -- ---- what is read is a number's text
 
@@ -261,7 +261,7 @@ digits_text (c ∷ cs) e h = go (is_digit c) refl e h
         zero_by false z low high p m = let n = eqb-false c 48 z in some (omega arith) high m
     go false d p m = let z : ◌≡◌ {A = ℕ} 0 1 = cc in absurd (omega arith)
 
-unsigned_is : (n : Bool) (s : List ℕ) (at : ℕ) (z : ℤ) (p : ℕ) → unsigned_at n s at ≡ Number z p
+unsigned_is : (n : Bool) (s : List ℕ) (at : ℕ) (z : ℤ) (p : ℕ) → unsigned_at n s at ≡ Some (z, p)
     → (ds : List ℕ) × (text_of z ≡ signed_text n (value_of 0 ds)) × (ds ≡ unsigned_text (value_of 0 ds)) × (p ≡ at + length ds) × (drop at s ≡ ds ++ drop p s)
 unsigned_is n s at z p e =
     let xs : List ℕ = drop at s in
@@ -278,7 +278,7 @@ unsigned_is n s at z p e =
       sym (take-append-drop k xs) ∙ ap (λ (t : List ℕ). take k xs ++ t) (drop-drop k at s ∙ ap (λ (i : ℕ). drop i s) (sym q)),
     )
 
-pub number_text : (s : List ℕ) (at : ℕ) (z : ℤ) (p : ℕ) → number_at s at ≡ Number z p → (p ≡ at + length (text_of z)) × (drop at s ≡ text_of z ++ drop p s)
+pub number_text : (s : List ℕ) (at : ℕ) (z : ℤ) (p : ℕ) → number_at s at ≡ Some (z, p) → (p ≡ at + length (text_of z)) × (drop at s ≡ text_of z ++ drop p s)
 number_text s at z p e =
     ⊎_elim
     (λ (m, g).
