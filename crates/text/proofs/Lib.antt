@@ -1,1 +1,3 @@
-pub mod Rest
+pub mod Digits
+pub mod Places
+pub mod Held

@@ -1,105 +1,74 @@
 // A decimal number in a slice of bytes: signed 32 bits, no leading zeros, no minus before 0.
-ghost use Rattle.std.specs.Prelude.{◌≡◌, ◌+◌, ◌-◌, ◌≤◌, length, take, drop};
-ghost use Rattle.meaning.specs.Text.{is_digit, span, value_of, is_plain, ranged as text_ranged, unsigned_at, number_at};
+ghost use Rattle.std.specs.Prelude.{◌≡◌, ◌≤◌, length, get_or};
+ghost use Rattle.meaning.specs.Text.{span as text_span, value_of, is_plain, ranged as text_ranged, unsigned_at, number_at};
 
-use meaning::Read;
-
-fn is_digit(c: u8) -> bool
-    ensures { result ≡ is_digit c }
+// How many digits a text begins with.
+fn span(s: &[u8]) -> usize
+    ensures { result ≡ text_span s.now }
 {
-    if c < 48 {
-        return false;
-    }
-    c < 58
+    s.iter().take_while(|c| c.is_ascii_digit()).count()
 }
 
-// Of k digits, c the first, none is a leading zero.
-fn plain(k: usize, c: u8) -> bool
-    ensures { result ≡ is_plain k c }
+// There is a digit, and no zero leads others.
+fn plain(digits: &[u8]) -> bool
+    ensures { result ≡ is_plain (length digits.now) (get_or digits.now 0 0) }
 {
-    if k == 0 {
-        return false;
+    match digits {
+        [] => false,
+        [_] => true,
+        [first, ..] => *first != b'0',
     }
-    if k == 1 {
-        return true;
-    }
-    c != 48
 }
 
-// Where the run of digits from a place on ends.
-fn digits_end(s: &[u8], from: usize) -> usize
-    requires { from ≤ length s.now }
-    ensures { (result ≡ from + span (drop from s.now)) × (result ≤ length s.now) }
+// The value of at most 10 digits; more are out of range.
+fn value_of(digits: &[u8]) -> u64
+    requires all { text_span digits.now ≡ length digits.now }
+    requires few { length digits.now ≤ 10 }
+    ensures { result ≡ value_of 0 digits.now }
 {
-    let mut i = from;
-    while i < s.len() {
-        if !is_digit(s[i]) {
-            return i;
-        }
-        i += 1;
-    }
-    i
-}
-
-// The value of a run of at most 10 digits; a longer one is out of range.
-fn value_of(s: &[u8], from: usize, to: usize) -> u64
-    requires { (to ≡ from + span (drop from s.now)) × (to ≤ length s.now) × (to ≤ from + 10) }
-    ensures { result ≡ value_of 0 (take (to - from) (drop from s.now)) }
-{
-    let mut v: u64 = 0;
-    let mut i = from;
-    while i < to {
-        v = v * 10 + ((s[i] - 48) as u64);
-        i += 1;
+    let mut v = 0;
+    for c in digits {
+        v = v * 10 + u64::from(c - b'0');
     }
     v
 }
 
-fn ranged(v: u64, next: usize, negative: bool) -> Read
+// A value with its sign, if it is in range.
+fn ranged(v: u64, next: usize, negative: bool) -> Option<(i32, usize)>
     ensures { result ≡ text_ranged negative v next }
 {
-    if negative {
-        if v == 0 {
-            return Read::Bad;
-        }
-        if v <= 2147483648 {
-            return Read::Number(-1 - ((v - 1) as i32), next);
-        }
-        return Read::Bad;
+    if negative && v == 0 {
+        return None;
     }
-    if v < 2147483648 {
-        return Read::Number(v as i32, next);
-    }
-    Read::Bad
+    let magnitude = i64::try_from(v).ok()?;
+    let z = i32::try_from(if negative { -magnitude } else { magnitude });
+    Some((z.ok()?, next))
 }
 
-fn unsigned(s: &[u8], p: usize, negative: bool) -> Read
+#[tactic(auto, using(crate::proofs::Digits::run_within, crate::proofs::Digits::run_digits, crate::proofs::Digits::run_bad, crate::proofs::Digits::run_long, crate::proofs::Digits::run_good))]
+fn unsigned(s: &[u8], p: usize, negative: bool) -> Option<(i32, usize)>
     requires { p ≤ length s.now }
     ensures { result ≡ unsigned_at negative s.now p }
 {
-    let e = digits_end(s, p);
-    let k = e - p;
-    if k == 0 {
-        return Read::Bad;
+    let rest = &s[p..];
+    let count = span(rest);
+    let digits = &rest[..count];
+    if !plain(digits) {
+        return None;
     }
-    if !plain(k, s[p]) {
-        return Read::Bad;
+    if count > 10 {
+        return None;
     }
-    if k > 10 {
-        return Read::Bad;
-    }
-    ranged(value_of(s, p, e), e, negative)
+    ranged(value_of(digits), p + count, negative)
 }
 
 // The number at a place, and the place behind it.
-pub fn number(s: &[u8], at: usize) -> Read
+#[tactic(auto, using(laws::proofs::Text::Numerals::number_minus, laws::proofs::Text::Numerals::number_plain, laws::proofs::Text::Numerals::number_none))]
+pub fn number(s: &[u8], at: usize) -> Option<(i32, usize)>
     ensures { result ≡ number_at s.now at }
 {
-    if at < s.len() {
-        if s[at] == 45 {
-            return unsigned(s, at + 1, true);
-        }
-        return unsigned(s, at, false);
+    match s.get(at)? {
+        b'-' => unsigned(s, at + 1, true),
+        _ => unsigned(s, at, false),
     }
-    Read::Bad
 }

@@ -7,31 +7,17 @@ pub mod forms;
 ghost use Rattle.std.specs.Prelude.{◌≡◌, [], ◌∷◌};
 ghost use Rattle.meaning.specs.Text.{stands as text_stands};
 
-// These bytes stand in s from a place on.
+// These bytes stand in s from a place on. No byte is behind the end, so a text of none stands there too.
 pub fn stands(s: &[u8], from: usize, text: &[u8]) -> bool
     ensures { result ≡ text_stands text.now s.now from }
 {
-    let mut at = from;
-    let mut i = 0;
-    while i < text.len() {
-        if at >= s.len() {
-            return false;
-        }
-        if s[at] != text[i] {
-            return false;
-        }
-        at += 1;
-        i += 1;
-    }
-    true
+    s.get(from..).unwrap_or_default().starts_with(text)
 }
 
 // This byte stands there.
+#[tactic(auto, using(std::proofs::lemmas::Bool::Decides::nat_tests), unfolding(meaning::specs::Text::stands))]
 pub fn is(s: &[u8], at: usize, b: u8) -> bool
     ensures { result ≡ text_stands (b ∷ []) s.now at }
 {
-    if at >= s.len() {
-        return false;
-    }
-    s[at] == b
+    s.get(at) == Some(&b)
 }

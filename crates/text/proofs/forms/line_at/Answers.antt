@@ -1,31 +1,40 @@
--- `line_at` meets its contract. The loop's invariant: what is left of the form decides the rest. What is left of the form falls. Assumes nothing.
-use mathlib.Core.Path.{refl, ◌∙◌, sym}
-use Prim.Native.Nat.{◌≤◌}
-use native.Mathlib.Omega.{arith}
-use lib.ListN.{get_or}
-use Rattle.laws.proofs.Text.Forms.{taken_most}
-use Rattle.text.specs.Held.{rest_of}
-use Rattle.text.proofs.Rest.{rest_more, rest_end}
+-- `line_at` meets its contract. The loop's invariant: what is left of the form decides the rest. Assumes nothing.
+use Rattle.std.proofs.Common.{◌∙◌, ap, sym, arith}
+use mir.Syntax.{w32}
+use mir.ValLaws.{to_z-of_z}
+use Rattle.laws.proofs.Text.Bytes.{stands_within}
+use Rattle.laws.proofs.Text.Numerals.{number_read}
+use Rattle.text.specs.Held.{behind}
+use Rattle.text.proofs.Held.{push_on, line_ends, number_bad, number_good, byte_bad, byte_good}
+use Rattle.text.proofs.forms.line_at.Goals.{then-c-eq35+in_ok-z, else-c-eq35+then-is}
 use Rattle.text.proofs.forms.line_at.Goals as goal
-use Rattle.text.proofs.forms.line_at.Goals.{After-taken-n}
 
-at_most_one : (c : After-taken-n) → c.taken-n.result ≤ 1
-at_most_one c = rw c.taken-n.ensures (taken_most (get_or c.args.form.now c.loop-i.i 0))
+pub returns-in_err-z : goal.returns-in_err-z
+returns-in_err-z c =
+    c.from_residual.ensures
+    ∙ sym (c.loop-c.invariant.1 ∙ ap (behind _) (number_bad _ _ _ _ c.loop-c-test.true c.if-c-eq35.true (sym (c.in_err-z.ensures))))
 
-pub loop-i-init : goal.loop-i-init
-unfolding rest_of
-loop-i-init c = (omega arith, omega arith, refl)
+pub overflow_add-at : goal.overflow_add-at
+overflow_add-at c = omega (arith, stands_within _ _ _ (sym c.is.ensures ∙ c.if-is.true))
 
-pub overflow_add-n : goal.overflow_add-n
-overflow_add-n c = omega (arith, at_most_one c)
+pub returns-else-is : goal.returns-else-is
+returns-else-is c =
+    sym (c.loop-c.invariant.1 ∙ ap (behind _) (byte_bad _ _ _ _ c.loop-c-test.true c.if-c-eq35.false (sym c.is.ensures ∙ c.if-is.false)))
 
-pub loop-i-preserved : goal.loop-i-preserved
-loop-i-preserved c =
-    let a = c.args in (
-      omega arith,
-      omega (arith, at_most_one c),
-      rw (c.taken-n.ensures, c.step-f.ensures) (c.loop-i.invariant.2 ∙ rest_more a.s.now a.form.now _ _ _ c.loop-i-test.true),
-    )
+pub loop-c-preserved : goal.loop-c-preserved
+loop-c-preserved c =
+    let i = c.loop-c.invariant in
+    let t = c.loop-c-test.true in
+    elim c.if-c-eq35.branch [
+      | then-c-eq35+in_ok-z w ↦
+          let p = w.try_push.ensures in
+          let k = sym w.in_ok-z.ensures in
+          let ok = rw (to_z-of_z w32 w.in_ok-z.z ((number_read _ _ _ _ k).1)) at p.ok in
+          let (n, e) = push_on w.try_push.result c.loop-c.numbers w.try_push.new.self w.in_ok-z.z _ p.variant ok p.err p.full in
+          rw (w.numbers-is, w.at-is) (n, i.1 ∙ ap (behind _) (number_good _ _ _ _ t w.if-c-eq35.true k) ∙ e)
+      | else-c-eq35+then-is w ↦
+          rw (w.numbers-is, w.at-is) (i.0, i.1 ∙ ap (behind _) (byte_good _ _ _ _ t w.if-c-eq35.false (sym w.is.ensures ∙ w.if-is.true)))
+    ]
 
 pub returns : goal.returns
-returns c = let a = c.args in sym (c.loop-i.invariant.2 ∙ rest_end a.s.now a.form.now _ _ _ c.loop-i-test.false)
+returns c = sym (c.loop-c.invariant.1 ∙ line_ends _ _ _ _ _ c.loop-c-test.false c.loop-c.invariant.0)

@@ -1,0 +1,57 @@
+-- A form, byte by byte, as a reader meets it: what the rest of it says behind the numbers that are held. Assumes nothing.
+use Rattle.std.proofs.Common.{◌≡◌, refl, ap, ◌∙◌, sym, Bool, true, false, cond, List, [], ◌∷◌, ◌++◌, append_assoc, ℕ, ◌+◌, ◌≤◌, ◌<◌, length, take, drop, get_or, eqb, ℤ, Some, None, Result, Ok, Err, IsOk, OnOk, OnErr, ◌↔◌, length-append, arith}
+use mathlib.Core.List.{append-nil}
+use lib.ListN.{drop_of_length-le}
+use lib.Seq.{take_all}
+use borrow.Author.Tests.{eq-eqb, ne_eqb}
+use Rattle.std.proofs.lemmas.List.{take-append-le}
+use Rattle.arrayvec.specs.ArrayVec.{ArrayVec}
+use Rattle.meaning.specs.Text.{stands, number_at}
+use Rattle.meaning.specs.Forms.{Line, front, read_number, read_byte, line_at}
+use Rattle.laws.proofs.Text.Numerals.{rest_cons}
+use Rattle.text.specs.Held.{behind}
+
+-- one more number, where there is room for it, and where there is none
+front_kept : (before : List ℤ) (z : ℤ) (l : Line (List ℤ)) → behind before (front z l) ≡ behind (before ++ z ∷ []) l
+front_kept before z None = refl
+front_kept before z (Some (zs, p)) = ap (λ xs. Some (record { items = take 16 xs }, p)) (sym (append_assoc before (z ∷ []) zs))
+
+front_full : (before : List ℤ) (z : ℤ) (l : Line (List ℤ)) → 16 ≤ length before → behind before (front z l) ≡ behind before l
+front_full before z None h = refl
+front_full before z (Some (zs, p)) h = ap (λ xs. Some (record { items = xs }, p)) (take-append-le 16 before (z ∷ zs) h ∙ sym (take-append-le 16 before zs h))
+
+pub push_on : {T E : Type 0} (r : Result T E) (before now : ArrayVec ℤ) (z : ℤ) (l : Line (List ℤ)) → IsOk r ↔ (length before.items < 16)
+    → OnOk r (now.items ≡ before.items ++ z ∷ []) → OnErr r (now ≡ before) → OnErr r (length before.items ≡ 16) → (length now.items ≤ 16) × (behind before.items (front z l) ≡ behind now.items l)
+push_on (Ok x) before now z l v p q f =
+    let h : length before.items < 16 = v.0 refl in
+    (rw p (omega (arith, length-append before.items (z ∷ []))), front_kept before.items z l ∙ ap (λ xs. behind xs l) (sym p))
+push_on (Err e) before now z l v p q f =
+    (rw (ap (λ x. x.items) q) (omega (arith, f)), front_full before.items z l (omega (arith, f)) ∙ ap (λ xs. behind xs l) (ap (λ x. x.items) (sym q)))
+
+module _ (s form : List ℕ) (at i : ℕ) where
+  abbrev rest : Line (List ℤ)
+  rest = line_at (drop i form) s at
+
+  abbrev byte : ℕ
+  byte = get_or form i 0
+
+  pub line_ends : (held : List ℤ) → length form ≤ i → length held ≤ 16 → behind held rest ≡ Some (record { items = held }, at)
+  unfolding line_at
+  line_ends held h k = rw (drop_of_length-le form {i = i} h) (ap (λ xs. Some (record { items = xs }, at)) (ap (take 16) (append-nil held) ∙ take_all 16 held k))
+
+  module _ (h : i < length form) where
+    by_byte : (b : Bool) → eqb byte 35 ≡ b → rest ≡ cond b read_number (read_byte byte) s at (line_at (drop (i + 1) form) s)
+    unfolding line_at
+    by_byte b e = rw (rest_cons form h, e) refl
+
+    pub number_bad : byte ≡ 35 → number_at s at ≡ None → rest ≡ None
+    number_bad e r = by_byte true (eq-eqb _ _ e) ∙ rw r refl
+
+    pub number_good : {z : ℤ} {p : ℕ} → byte ≡ 35 → number_at s at ≡ Some (z, p) → rest ≡ front z (line_at (drop (i + 1) form) s p)
+    number_good e r = by_byte true (eq-eqb _ _ e) ∙ rw r refl
+
+    pub byte_bad : (byte ≡ 35 → ⊥) → stands (byte ∷ []) s at ≡ false → rest ≡ None
+    byte_bad e r = by_byte false (ne_eqb _ _ e) ∙ rw r refl
+
+    pub byte_good : (byte ≡ 35 → ⊥) → stands (byte ∷ []) s at ≡ true → rest ≡ line_at (drop (i + 1) form) s (at + 1)
+    byte_good e r = by_byte false (ne_eqb _ _ e) ∙ rw r refl
