@@ -1,13 +1,12 @@
 -- What was written: one text after the other, and the room that is left. Assumes nothing.
 use mathlib.Core.Path.{◌≡◌, refl, ap, ◌∙◌, sym}
 use mathlib.Core.Bool.{Bool, true, false, cond}
-use mathlib.Core.List.{List, [], ◌∷◌, ◌++◌}
-use Prim.Native.Nat.{ℕ, suc, ◌+◌, ◌≤◌, ◌<◌}
-use native.Mathlib.Numerals.{add-one}
+use mathlib.Core.List.{List, [], ◌∷◌, ◌++◌, append_assoc}
+use Prim.Native.Nat.{ℕ, suc, ◌+◌, ◌-◌, ◌≤◌, ◌<◌}
 use native.Mathlib.Omega.{arith}
 use lib.IntN.{ℤ, pos, negsuc, nat_abs}
 use lib.ListN.{length, take, drop, set, get_or, length-append}
-use lib.Seq.{sets, sets-eq, length-sets, paste, paste-suc, take-length, take_all}
+use lib.Seq.{sets, sets-eq, length-sets, drop-drop, take_all}
 use lib.Signed.{lt_z}
 use borrow.Author.Tests.{ltb-true, eq-eqb, ne_eqb}
 use mir.Syntax.{w64}
@@ -67,21 +66,15 @@ nothing d a h = record { stored = refl; place = omega arith; fits = omega arith 
 pub room : {a b : ℕ} {d e t : List ℕ} (u : List ℕ) → Wrote d a t e b → a + length (t ++ u) ≤ length d → b + length u ≤ length e
 room {t = t} u p h = let k = kept p in let i = p.place in let g = length-append t u in omega arith
 
--- ---- a text, byte by byte
+-- ---- a text that is copied to its place
 
-pub paste_more : (d : List ℕ) (at : ℕ) (src now : List ℕ) (i : ℕ) → now ≡ paste d at src i → at + i < length d → i < length src
-    → set now (at + i) (get_or src i 0) ≡ paste d at src (i + 1)
-paste_more d at src now i e h k = rw (e, add-one) (paste-suc d at src i 0 h k)
-
-pub paste_whole : (d : List ℕ) (at : ℕ) (src now : List ℕ) (i : ℕ) → at + length src ≤ length d → now ≡ paste d at src i → i ≡ length src
-    → Wrote d at src now (at + i)
-paste_whole d at src now i h e k =
+pub wrote_part : (d : List ℕ) (at : ℕ) (text now : List ℕ) → at + length text ≤ length d → now ≡ text
+    → Wrote d at text (take at d ++ (now ++ drop (at + length text - at) (drop at d))) (at + length text)
+wrote_part d at text now h e =
+    let k : at + (at + length text - at) ≡ at + length text = omega arith in
     record {
-      stored =
-          e ∙ ap (λ (q : ℕ). paste d at src q) k
-          ∙ ap (λ (r : List ℕ). take at d ++ r ++ drop (at + length src) d) (take-length src)
-          ∙ sym (sets-eq src d at h);
-      place = omega arith;
+      stored = rw (e, drop-drop, k) (sym (append_assoc (take at d) text (drop (at + length text) d)) ∙ sym (sets-eq text d at h));
+      place = refl;
       fits = h;
     }
 

@@ -7,16 +7,14 @@ ghost use Rattle.meaning.specs.Text.{unsigned_text, text_of};
 ghost use Rattle.writing.specs.Wrote.{Wrote};
 
 // A text.
+#[tactic(auto, using(crate::proofs::Writing::wrote_part))]
 fn put(out: &mut [u8], at: usize, text: &[u8]) -> usize
     requires { at + length text.now ≤ length out.old }
     ensures { Wrote out.old at text.now out.new result }
 {
-    let mut k = 0;
-    while k < text.len() {
-        out[at + k] = text[k];
-        k += 1;
-    }
-    at + k
+    let end = at + text.len();
+    out[at..end].copy_from_slice(text);
+    end
 }
 
 fn decimal(out: &mut [u8], at: usize, n: u64) -> usize
@@ -34,9 +32,9 @@ fn number(out: &mut [u8], at: usize, z: i64) -> usize
 {
     if z < 0 {
         out[at] = b'-';
-        return decimal(out, at + 1, arith::magnitude64(z));
+        return decimal(out, at + 1, z.unsigned_abs());
     }
-    decimal(out, at, arith::magnitude64(z))
+    decimal(out, at, z.unsigned_abs())
 }
 
 // What stands for a form's byte: the number for #, or the byte itself.
@@ -56,10 +54,7 @@ fn piece(out: &mut [u8], at: usize, c: u8, z: i64) -> usize
 fn nth(numbers: &[i64], i: usize) -> i64
     ensures { result ≡ get_or numbers.now i (pos 0) }
 {
-    if i < numbers.len() {
-        return numbers[i];
-    }
-    0
+    numbers.get(i).copied().unwrap_or(0)
 }
 
 // A line: a form with these numbers, one for each #.
@@ -69,12 +64,9 @@ pub fn put_line(out: &mut [u8], from: usize, form: &[u8], numbers: &[i64]) -> us
 {
     let mut at = from;
     let mut next = 0;
-    let mut i = 0;
-    while i < form.len() {
-        let c = form[i];
+    for &c in form {
         at = piece(out, at, c, nth(numbers, next));
         next += text::forms::taken(c);
-        i += 1;
     }
     at
 }

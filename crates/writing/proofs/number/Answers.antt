@@ -10,20 +10,20 @@ use mir.ValLaws.{to_z-of_z}
 use Rattle.meaning.specs.Text.{unsigned_text, text_of}
 use Rattle.writing.proofs.Writing.{◌⨾◌, same_text, byte, below_text, other_text}
 use Rattle.writing.proofs.number.Goals as goal
-use Rattle.writing.proofs.number.Goals.{After-magnitude64, After-magnitude64-2, Then-z-lt0}
+use Rattle.writing.proofs.number.Goals.{After-unsigned_abs, After-unsigned_abs-2, Then-z-lt0}
 
 -- below 0
 minus : (c : Then-z-lt0) → text_of c.args.z ≡ 45 ∷ unsigned_text (nat_abs c.args.z)
 minus c = below_text c.args.z (rw (to_z-of_z w64 _ c.ranges.z) at c.if-z-lt0.true)
 
-magnitude : (c : After-magnitude64) → c.magnitude64.result ≡ nat_abs c.args.z
-magnitude c = c.magnitude64.ensures ∙ ap nat_abs (to_z-of_z w64 _ c.ranges.z)
+magnitude : (c : After-unsigned_abs) → c.unsigned_abs.result ≡ nat_abs c.args.z
+magnitude c = c.unsigned_abs.ensures.value ∙ ap nat_abs (to_z-of_z w64 _ c.ranges.z)
 
 -- not below 0
-plain : (c : After-magnitude64-2) → unsigned_text c.magnitude64-2.result ≡ text_of c.args.z
+plain : (c : After-unsigned_abs-2) → unsigned_text c.unsigned_abs-2.result ≡ text_of c.args.z
 plain c =
     let h = to_z-of_z w64 _ c.ranges.z in
-    ap unsigned_text (c.magnitude64-2.ensures ∙ ap nat_abs h) ∙ sym (other_text c.args.z (rw h at c.if-z-lt0.false))
+    ap unsigned_text (c.unsigned_abs-2.ensures.value ∙ ap nat_abs h) ∙ sym (other_text c.args.z (rw h at c.if-z-lt0.false))
 
 pub bounds-out-at : goal.bounds-out-at
 bounds-out-at c = omega (arith, ap length (minus c), c.requires)
@@ -40,10 +40,10 @@ shape_of-out-then-z-lt0 c = c.decimal.auto.out ∙ simp length-set
 
 pub returns-then-z-lt0 : goal.returns-then-z-lt0
 returns-then-z-lt0 c =
-    same_text (ap (λ (x : ℕ). 45 ∷ unsigned_text x) (magnitude (goal.at.returns-then-z-lt0 c).After-magnitude64) ∙ sym (minus (goal.at.returns-then-z-lt0 c).Then-z-lt0)) (byte _ _ 45 (bounds-out-at (goal.at.returns-then-z-lt0 c).Then-z-lt0) ⨾ c.decimal.ensures)
+    same_text (ap (λ (x : ℕ). 45 ∷ unsigned_text x) (magnitude (goal.at.returns-then-z-lt0 c).After-unsigned_abs) ∙ sym (minus (goal.at.returns-then-z-lt0 c).Then-z-lt0)) (byte _ _ 45 (bounds-out-at (goal.at.returns-then-z-lt0 c).Then-z-lt0) ⨾ c.decimal.ensures)
 
 pub decimal-requires-2 : goal.decimal-requires-2
 decimal-requires-2 c = rw (plain c) c.requires
 
 pub returns : goal.returns
-returns c = same_text (plain (goal.at.returns c).After-magnitude64-2) c.decimal-2.ensures
+returns c = same_text (plain (goal.at.returns c).After-unsigned_abs-2) c.decimal-2.ensures

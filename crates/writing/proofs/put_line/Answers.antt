@@ -1,4 +1,4 @@
--- `put_line` meets its contract. The loop's invariant: the line of the form's first bytes is written. What is left of the form falls. Assumes nothing.
+-- `put_line` meets its contract. The loop's invariant: the line of the form's first bytes is written. Assumes nothing.
 use mathlib.Core.Path.{◌≡◌, refl, ◌∙◌}
 use Prim.Native.Nat.{◌≤◌}
 use native.Mathlib.Omega.{arith}
@@ -15,32 +15,31 @@ use Rattle.writing.proofs.put_line.Goals.{After-nth, After-taken-next}
 
 -- the next number
 number : (c : After-nth)
-    → to_z w64 (of_z w64 c.nth.result) ≡ get_or c.args.numbers.now c.loop-i.next (pos 0)
+    → to_z w64 (of_z w64 c.nth.result) ≡ get_or c.args.numbers.now c.loop-c.next (pos 0)
 number c = let h : SFits w64 c.nth.result = search rules in to_z-of_z w64 _ h ∙ c.nth.ensures
 
 at_most_one : (c : After-taken-next) → c.taken-next.result ≤ 1
-at_most_one c = rw c.taken-next.ensures (taken_most (get_or c.args.form.now c.loop-i.i 0))
+at_most_one c = rw c.taken-next.ensures (taken_most (get_or c.args.form.now c.loop-c.c-index 0))
 
-pub loop-i-init : goal.loop-i-init
-loop-i-init c = (omega arith, omega arith, refl, begin _ _ _ _ (omega arith))
+pub loop-c-init : goal.loop-c-init
+loop-c-init c = (omega arith, refl, begin _ _ _ _ (omega arith))
 
 pub piece-at-requires : goal.piece-at-requires
 piece-at-requires c =
-    rw (number c) (part_room c.loop-i.invariant.3 c.loop-i-test.true c.requires)
+    rw (number c) (part_room c.loop-c.invariant.2 c.loop-c-test.true c.requires)
 
 pub overflow_add-next : goal.overflow_add-next
 overflow_add-next c = omega (arith, at_most_one c)
 
-pub loop-i-preserved : goal.loop-i-preserved
-loop-i-preserved c = (
-  omega arith,
+pub loop-c-preserved : goal.loop-c-preserved
+loop-c-preserved c = (
   omega (arith, at_most_one c),
-  c.piece-at.auto.out ∙ c.loop-i.invariant.2,
-  rw c.taken-next.ensures (part_on c.loop-i.invariant.3 c.loop-i-test.true (rw (number (goal.at.loop-i-preserved c).After-nth) at c.piece-at.ensures)),
+  c.piece-at.auto.out ∙ c.loop-c.invariant.1,
+  rw c.taken-next.ensures (part_on c.loop-c.invariant.2 c.loop-c-test.true (rw (number (goal.at.loop-c-preserved c).After-nth) at c.piece-at.ensures)),
 )
 
 pub shape_of-out : goal.shape_of-out
-shape_of-out c = c.loop-i.invariant.2
+shape_of-out c = c.loop-c.invariant.1
 
 pub returns : goal.returns
-returns c = line_done c.loop-i.invariant.3 c.loop-i-test.false
+returns c = line_done c.loop-c.invariant.2 c.loop-c-test.false
