@@ -1,110 +1,115 @@
--- From the code's answers back to the definition's lines. Assumes nothing.
-use mathlib.Core.Path.{◌≡◌, refl, ap, ap₂, ◌∙◌, sym}
-use mathlib.Core.Bool.{Bool}
-use mathlib.Core.List.{List, [], ◌∷◌}
-use Prim.Native.Nat.{ℕ, suc, ◌+◌, ◌<◌}
-use native.Mathlib.Omega.{arith}
-use lib.IntN.{ℤ, pos}
-use lib.ListN.{length, get_or, set}
-use lib.Seq.{sets, get_or-set_other}
-use borrow.Author.Tests.{eq-eqb, ne_eqb}
-use Rattle.meaning.specs.declared.Read.TheVariants.{Number, Bad}
-use Rattle.meaning.specs.Forms.{Line, good, bad}
-use Rattle.meaning.specs.Job.{Job, asks, malformed, only, next, ended}
-use Rattle.text.specs.declared.forms.End.TheVariants.{At}
-use Rattle.text.specs.declared.forms.End.TheVariants as end
-use Rattle.text.specs.declared.forms.Fields.{Fields}
-use Rattle.text.specs.Held.{no_numbers, behind, fields_of}
-use Rattle.job.specs.declared.Order.TheVariants.{By, Neither}
-use Rattle.job.specs.declared.Counted.TheVariants.{Listed, Unlisted}
-use Rattle.job.specs.declared.Targets.{Targets}
-use Rattle.job.specs.declared.Asks.TheVariants.{Wants}
-use Rattle.job.specs.declared.Parsed.{Parsed}
-use Rattle.job.specs.Held.{read_of, order_of, targets_of, no_targets, parsed_of}
+-- A job's lines, as a reader meets them: the numbers of the targets' line, one after the other, and what the lines that are read make of the job. Assumes nothing.
+use Rattle.std.proofs.Common.{◌≡◌, refl, ap, ◌∙◌, sym, Bool, true, false, List, [], ◌∷◌, ℕ, zero, suc, ◌+◌, ◌-◌, ◌<◌, ◌≤◌, length, take, get_or, ℤ, Some, None, Result, Ok, Err, IsErrAnd, arith}
+use lib.Seq.{take_all}
+use Rattle.std.proofs.lemmas.Option.{some_pair_parts}
+use Rattle.arrayvec.specs.ArrayVec.{ArrayVec}
+use Rattle.meaning.specs.declared.Refusal.{Refusal}
+use Rattle.meaning.specs.declared.Refusal.TheVariants as no
+use borrow.Author.Tests.{lt-ltb, le-ltb, le-leb, lt-leb, eq-eqb, ne_eqb}
+use Rattle.meaning.specs.Text.{bytes, stands, number_at}
+use Rattle.meaning.specs.Forms.{Line, front, line_at, bits_form, input_form}
+use Rattle.meaning.specs.Job.{most_bytes, asks, only, report_at, numbers, targets_at, job_of}
+use Rattle.laws.proofs.Text.Asked.{most_targets_lem}
+use Rattle.laws.proofs.Text.Numerals.{no_some}
+use Rattle.text.specs.Held.{held}
+use Rattle.job.specs.Parsed.{parsed}
 
-pub read_good : (l : Line ℤ) (z : ℤ) (p : ℕ) → read_of l ≡ Number z p → l ≡ good z p
-unfolding read_of
-read_good (good y q) z p e = cc
-read_good bad z p e = let x : ◌≡◌ {A = ℕ} 0 1 = cc in let y : ⊥ = omega arith in absurd y
+-- ---- the byte at a place
 
-pub read_bad : (l : Line ℤ) → read_of l ≡ Bad → l ≡ bad
-unfolding read_of
-read_bad (good y q) e = let x : ◌≡◌ {A = ℕ} 0 1 = cc in let y : ⊥ = omega arith in absurd y
-read_bad bad e = refl
+module _ (s : List ℕ) (at c : ℕ) where
+  past_end : length s ≤ at → stands (c ∷ []) s at ≡ false
+  unfolding stands
+  past_end h = rw (le-ltb _ _ h) refl
 
-pub order_good : (l : Line Bool) (b : Bool) (p : ℕ) → order_of l ≡ By b p → l ≡ good b p
-unfolding order_of
-order_good (good y q) b p e = cc
-order_good bad b p e = let x : ◌≡◌ {A = ℕ} 0 1 = cc in let y : ⊥ = omega arith in absurd y
+  byte_is : at < length s → get_or s at 0 ≡ c → stands (c ∷ []) s at ≡ true
+  unfolding stands
+  byte_is h e = rw (lt-ltb _ _ h, eq-eqb _ _ e) refl
 
-pub order_bad : (l : Line Bool) → order_of l ≡ Neither → l ≡ bad
-unfolding order_of
-order_bad (good y q) e = let x : ◌≡◌ {A = ℕ} 0 1 = cc in let y : ⊥ = omega arith in absurd y
-order_bad bad e = refl
+  other_byte : at < length s → (get_or s at 0 ≡ c → ⊥) → stands (c ∷ []) s at ≡ false
+  unfolding stands
+  other_byte h e = rw (lt-ltb _ _ h, ne_eqb _ _ e) refl
 
--- the targets: what the code's struct says, in cases of the definition
-none_by : (l : Line (List ℤ)) → (targets_of 0 no_targets l).read ≡ Unlisted → l ≡ bad
-unfolding targets_of
-none_by (good zs q) g = let x : ◌≡◌ {A = ℕ} 0 1 = cc in let y : ⊥ = omega arith in absurd y
-none_by bad g = refl
+-- ---- one number of the list, and what is behind it
 
-pub targets_none : (t : Targets) (l : Line (List ℤ)) → t ≡ targets_of 0 no_targets l → t.read ≡ Unlisted → l ≡ bad
-targets_none t l e f = none_by l (ap (λ (x : Targets). x.read) (sym e) ∙ f)
+module _ (s : List ℕ) (at : ℕ) where
+  pub numbers_none : (most : ℕ) → number_at s at ≡ None → numbers most s at ≡ None
+  unfolding numbers
+  numbers_none zero e = refl
+  numbers_none (suc most) e = rw e refl
 
-module _ (s : List ℕ) (b w : ℤ) (r : Bool) where
-  abbrev last : List ℤ → ℕ → ℕ → Job
-  last ts line at = ended s (asks (record { head = record { bits = b; input = w; by_width = r }; targets = ts })) line at
+module _ (s : List ℕ) (at : ℕ) (z : ℤ) (p : ℕ) (e : number_at s at ≡ Some (z, p)) where
+  open_by : (most : ℕ) → stands (bytes ",") s p ≡ false → stands (bytes "\n") s p ≡ false → numbers most s at ≡ None
+  unfolding numbers
+  open_by zero c f = refl
+  open_by (suc most) c f = rw (e, c, f) refl
 
-  more_by : (l : Line (List ℤ)) (n p : ℕ) → (targets_of 0 no_targets l).read ≡ Listed n p → (p ≡ length s → ⊥) → next l 4 last ≡ malformed 5
-  unfolding targets_of
-  more_by (good zs q) n p g k =
-      let e : q ≡ p = cc in
-      rw (ne_eqb q (length s) (λ (x : q ≡ length s). k (sym e ∙ x))) refl
-  more_by bad n p g k = let x : ◌≡◌ {A = ℕ} 0 1 = cc in let y : ⊥ = omega arith in absurd y
+  pub numbers_cut : (most : ℕ) → length s ≤ p → numbers most s at ≡ None
+  numbers_cut most h = open_by most (past_end s p 44 h) (past_end s p 10 h)
 
-  pub targets_more : (t : Targets) (l : Line (List ℤ)) (n p : ℕ) → t ≡ targets_of 0 no_targets l
-      → t.read ≡ Listed n p → (p ≡ length s → ⊥) → next l 4 last ≡ malformed 5
-  targets_more t l n p e f k = more_by l n p (ap (λ (x : Targets). x.read) (sym e) ∙ f) k
+  pub numbers_open : (most : ℕ) → p < length s → (get_or s p 0 ≡ 44 → ⊥) → (get_or s p 0 ≡ 10 → ⊥) → numbers most s at ≡ None
+  numbers_open most h c f = open_by most (other_byte s p 44 h c) (other_byte s p 10 h f)
 
-  all_by : (l : Line (List ℤ)) (n p : ℕ) → (targets_of 0 no_targets l).read ≡ Listed n p → p ≡ length s
-      → ◌≡◌ {A = Parsed} (record { asks = Wants (record { bits = b; input = w; by_width = r }) n; targets = (targets_of 0 no_targets l).values }) (parsed_of (next l 4 last))
-  unfolding targets_of
-  all_by (good zs q) n p g k =
-      let e : q ≡ p = cc in
-      let h : 0 + length zs ≡ n = cc in
-      let i : n ≡ length zs = omega arith in
-      rw (eq-eqb q (length s) (e ∙ k), i) refl
-  all_by bad n p g k = let x : ◌≡◌ {A = ℕ} 0 1 = cc in let y : ⊥ = omega arith in absurd y
+  pub numbers_last : (most : ℕ) → 0 < most → p < length s → get_or s p 0 ≡ 10 → numbers most s at ≡ Some (z ∷ [], p + 1)
+  unfolding numbers
+  numbers_last zero n h f = absurd (omega arith)
+  numbers_last (suc most) n h f = rw (e, other_byte s p 44 h (λ c. omega arith), byte_is s p 10 h f) refl
 
-  pub targets_all : (t : Targets) (l : Line (List ℤ)) (n p : ℕ) → t ≡ targets_of 0 no_targets l → t.read ≡ Listed n p → p ≡ length s
-      → ◌≡◌ {A = Parsed} (record { asks = Wants (record { bits = b; input = w; by_width = r }) n; targets = t.values }) (parsed_of (next l 4 last))
-  targets_all t l n p e f k =
-      ap (λ (x : Targets). record { asks = Wants (record { bits = b; input = w; by_width = r }) n; targets = x.values }) e
-      ∙ all_by l n p (ap (λ (x : Targets). x.read) (sym e) ∙ f) k
+  pub numbers_more : (most : ℕ) → 0 < most → p < length s → get_or s p 0 ≡ 44 → numbers most s at ≡ front z (numbers (most - 1) s (p + 1))
+  unfolding numbers
+  numbers_more zero n h c = absurd (omega arith)
+  numbers_more (suc most) n h c = let k : suc most - 1 ≡ most = omega arith in rw (k, e, byte_is s p 44 h c) refl
 
--- ---- a line of one number
+-- ---- the job, by the lines that are read
 
-later : (l vs : List ℤ) (i : ℕ) → 0 < i → get_or (sets l i vs) 0 (pos 0) ≡ get_or l 0 (pos 0)
-later l [] i h = refl
-later l (v ∷ vs) i h = later (set l i v) vs (suc i) (omega arith) ∙ get_or-set_other l i 0 v (pos 0) (λ (e : 0 ≡ i). omega arith)
+held_none : (room : ℕ) (l : Line (List ℤ)) → held room l ≡ None → l ≡ None
+held_none room None e = refl
+held_none room (Some x) e = no_some (sym e)
 
-first_kept : (zs : List ℤ) → get_or (sets no_numbers 0 zs) 0 (pos 0) ≡ get_or zs 0 (pos 0)
-first_kept [] = refl
-first_kept (z ∷ zs) = later (set no_numbers 0 z) zs 1 (omega arith)
+held_some : (room : ℕ) (l : Line (List ℤ)) {v : ArrayVec ℤ} {p : ℕ} → held room l ≡ Some (v, p) → (zs : List ℤ) × (l ≡ Some (zs, p)) × (v ≡ record { items = take room zs })
+held_some room None e = no_some e
+held_some room (Some (zs, q)) e = let (i, k) = some_pair_parts _ _ _ _ e in (zs, ap (λ n. Some (zs, n)) k, sym i)
 
--- what the code's struct says, in cases of the definition
-one_by : (l : Line (List ℤ)) (p : ℕ) → (fields_of l).end ≡ At p → Number (get_or (fields_of l).values 0 (pos 0)) p ≡ read_of (only l)
-unfolding behind read_of
-one_by (good zs q) p e = let i : p ≡ q = cc in ap₂ Number (first_kept zs) i
-one_by bad p e = let x : ◌≡◌ {A = ℕ} 0 1 = cc in let y : ⊥ = omega arith in absurd y
+-- a text that is too long
+pub long_job : (s : List ℕ) → most_bytes < length s → Err (no.Job 0) ≡ parsed (job_of s)
+unfolding job_of
+long_job s h = rw (lt-leb (length s) most_bytes h) refl
 
-pub one_good : (f : Fields) (l : Line (List ℤ)) (p : ℕ) → f ≡ fields_of l → f.end ≡ At p → Number (get_or f.values 0 (pos 0)) p ≡ read_of (only l)
-one_good f l p e g = ap (λ (x : Fields). Number (get_or x.values 0 (pos 0)) p) e ∙ one_by l p (ap (λ (x : Fields). x.end) (sym e) ∙ g)
+-- the error of a line that is not read
+pub refusal_is : {T U : Type 0} (r : Result T Refusal) {f why : Refusal} → IsErrAnd r (λ y. y ≡ f) → ◌≡◌ {A = Result U Refusal} (Err f) (Err why) → r ≡ Err why
+refusal_is (Ok x) h e = absurd h
+refusal_is (Err y) h e = ap Err h ∙ cc
 
-bad_by : (l : Line (List ℤ)) → (fields_of l).end ≡ end.Bad → Bad ≡ read_of (only l)
-unfolding behind read_of
-bad_by (good zs q) e = let x : ◌≡◌ {A = ℕ} 0 1 = cc in let y : ⊥ = omega arith in absurd y
-bad_by bad e = refl
+module _ (s : List ℕ) (h : length s ≤ most_bytes) where
+  pub bad_1 : only (line_at bits_form s 0) ≡ None → Err (no.Job 1) ≡ parsed (job_of s)
+  unfolding job_of
+  bad_1 e = rw (le-leb _ _ h, e) refl
 
-pub one_bad : (f : Fields) (l : Line (List ℤ)) → f ≡ fields_of l → f.end ≡ end.Bad → Bad ≡ read_of (only l)
-one_bad f l e g = bad_by l (ap (λ (x : Fields). x.end) (sym e) ∙ g)
+  module _ {b : ℤ} {p1 : ℕ} (e1 : only (line_at bits_form s 0) ≡ Some (b, p1)) where
+    pub bad_2 : only (line_at input_form s p1) ≡ None → Err (no.Job 2) ≡ parsed (job_of s)
+    unfolding job_of
+    bad_2 e = rw (le-leb _ _ h, e1, e) refl
+
+    module _ {w : ℤ} {p2 : ℕ} (e2 : only (line_at input_form s p1) ≡ Some (w, p2)) where
+      pub bad_3 : report_at s p2 ≡ None → Err (no.Job 3) ≡ parsed (job_of s)
+      unfolding job_of
+      bad_3 e = rw (le-leb _ _ h, e1, e2, e) refl
+
+      module _ {r : Bool} {p3 : ℕ} (e3 : report_at s p2 ≡ Some (r, p3)) where
+        pub bad_4 : held 128 (targets_at s p3) ≡ None → Err (no.Job 4) ≡ parsed (job_of s)
+        unfolding job_of
+        bad_4 e = rw (le-leb _ _ h, e1, e2, e3, held_none 128 _ e) refl
+
+        module _ {v : ArrayVec ℤ} {p4 : ℕ} (e4 : held 128 (targets_at s p3) ≡ Some (v, p4)) where
+          pub bad_5 : (p4 ≡ length s → ⊥) → Err (no.Job 5) ≡ parsed (job_of s)
+          unfolding job_of
+          bad_5 n = let (ts, e, i) = held_some 128 _ e4 in rw (le-leb _ _ h, e1, e2, e3, e, ne_eqb _ _ n) refl
+
+          job_is : (ts : List ℤ) → targets_at s p3 ≡ Some (ts, p4) → p4 ≡ length s → job_of s ≡ asks (record { head = record { bits = b; input = w; by_width = r }; targets = ts })
+          unfolding job_of
+          job_is ts e n = rw (le-leb _ _ h, e1, e2, e3, e, eq-eqb _ _ n) refl
+
+          pub job_read : p4 ≡ length s → Ok (record { head = record { bits = b; input = w; by_width = r }; targets = v }) ≡ parsed (job_of s)
+          job_read n =
+              let (ts, e, i) = held_some 128 _ e4 in
+              let j = job_is ts e n in
+              ap (λ x. Ok (record { head = record { bits = b; input = w; by_width = r }; targets = x })) (i ∙ ap (λ xs. record { items = xs }) (take_all 128 ts (most_targets_lem s _ j))) ∙ ap parsed (sym j)

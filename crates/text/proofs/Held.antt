@@ -12,21 +12,29 @@ use Rattle.laws.proofs.Text.Numerals.{rest_cons}
 use Rattle.text.specs.Held.{behind}
 
 -- one more number, where there is room for it, and where there is none
-front_kept : (before : List ℤ) (z : ℤ) (l : Line (List ℤ)) → behind before (front z l) ≡ behind (before ++ z ∷ []) l
-front_kept before z None = refl
-front_kept before z (Some (zs, p)) = ap (λ xs. Some (record { items = take 16 xs }, p)) (sym (append_assoc before (z ∷ []) zs))
+module _ (room : ℕ) where
+  front_kept : (before : List ℤ) (z : ℤ) (l : Line (List ℤ)) → behind room before (front z l) ≡ behind room (before ++ z ∷ []) l
+  front_kept before z None = refl
+  front_kept before z (Some (zs, p)) = ap (λ xs. Some (record { items = take room xs }, p)) (sym (append_assoc before (z ∷ []) zs))
 
-front_full : (before : List ℤ) (z : ℤ) (l : Line (List ℤ)) → 16 ≤ length before → behind before (front z l) ≡ behind before l
-front_full before z None h = refl
-front_full before z (Some (zs, p)) h = ap (λ xs. Some (record { items = xs }, p)) (take-append-le 16 before (z ∷ zs) h ∙ sym (take-append-le 16 before zs h))
+  front_full : (before : List ℤ) (z : ℤ) (l : Line (List ℤ)) → room ≤ length before → behind room before (front z l) ≡ behind room before l
+  front_full before z None h = refl
+  front_full before z (Some (zs, p)) h =
+      ap (λ xs. Some (record { items = xs }, p)) (take-append-le room before (z ∷ zs) h ∙ sym (take-append-le room before zs h))
 
-pub push_on : {T E : Type 0} (r : Result T E) (before now : ArrayVec ℤ) (z : ℤ) (l : Line (List ℤ)) → IsOk r ↔ (length before.items < 16)
-    → OnOk r (now.items ≡ before.items ++ z ∷ []) → OnErr r (now ≡ before) → OnErr r (length before.items ≡ 16) → (length now.items ≤ 16) × (behind before.items (front z l) ≡ behind now.items l)
-push_on (Ok x) before now z l v p q f =
-    let h : length before.items < 16 = v.0 refl in
-    (rw p (omega (arith, length-append before.items (z ∷ []))), front_kept before.items z l ∙ ap (λ xs. behind xs l) (sym p))
-push_on (Err e) before now z l v p q f =
-    (rw (ap (λ x. x.items) q) (omega (arith, f)), front_full before.items z l (omega (arith, f)) ∙ ap (λ xs. behind xs l) (ap (λ x. x.items) (sym q)))
+  pub push_on : {T E : Type 0} (r : Result T E) (before now : ArrayVec ℤ) (z : ℤ) (l : Line (List ℤ)) → IsOk r ↔ (length before.items < room)
+      → OnOk r (now.items ≡ before.items ++ z ∷ []) → OnErr r (now ≡ before) → OnErr r (length before.items ≡ room)
+      → (length now.items ≤ room) × (behind room before.items (front z l) ≡ behind room now.items l)
+  push_on (Ok x) before now z l v p q f =
+      let h : length before.items < room = v.0 refl in
+      (rw p (omega (arith, length-append before.items (z ∷ []))), front_kept before.items z l ∙ ap (λ xs. behind room xs l) (sym p))
+  push_on (Err e) before now z l v p q f =
+      let i = ap (λ x. x.items) q in
+      (rw i (omega (arith, f)), front_full before.items z l (omega (arith, f)) ∙ ap (λ xs. behind room xs l) (sym i))
+
+  -- nothing more
+  pub behind_all : (before : List ℤ) (p : ℕ) → length before ≤ room → behind room before (Some ([], p)) ≡ Some (record { items = before }, p)
+  behind_all before p h = ap (λ xs. Some (record { items = xs }, p)) (ap (take room) (append-nil before) ∙ take_all room before h)
 
 module _ (s form : List ℕ) (at i : ℕ) where
   abbrev rest : Line (List ℤ)
@@ -35,9 +43,9 @@ module _ (s form : List ℕ) (at i : ℕ) where
   abbrev byte : ℕ
   byte = get_or form i 0
 
-  pub line_ends : (held : List ℤ) → length form ≤ i → length held ≤ 16 → behind held rest ≡ Some (record { items = held }, at)
+  pub line_ends : length form ≤ i → rest ≡ Some ([], at)
   unfolding line_at
-  line_ends held h k = rw (drop_of_length-le form {i = i} h) (ap (λ xs. Some (record { items = xs }, at)) (ap (take 16) (append-nil held) ∙ take_all 16 held k))
+  line_ends h = rw (drop_of_length-le form {i = i} h) refl
 
   module _ (h : i < length form) where
     by_byte : (b : Bool) → eqb byte 35 ≡ b → rest ≡ cond b read_number (read_byte byte) s at (line_at (drop (i + 1) form) s)

@@ -4,9 +4,9 @@ use Rattle.arrayvec.specs.ArrayVec.{ArrayVec}
 use Rattle.meaning.specs.Forms.{Line}
 
 -- what a line says behind numbers that are held
-abbrev pub behind : List ℤ → Line (List ℤ) → Option (ArrayVec ℤ × ℕ)
-behind before None = None
-behind before (Some (zs, p)) = Some (record { items = take 16 (before ++ zs) }, p)
+abbrev pub behind : ℕ → List ℤ → Line (List ℤ) → Option (ArrayVec ℤ × ℕ)
+behind room before None = None
+behind room before (Some (zs, p)) = Some (record { items = take room (before ++ zs) }, p)
 
-abbrev pub held : Line (List ℤ) → Option (ArrayVec ℤ × ℕ)
-held l = behind [] l
+abbrev pub held : ℕ → Line (List ℤ) → Option (ArrayVec ℤ × ℕ)
+held room l = behind room [] l

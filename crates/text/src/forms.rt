@@ -18,7 +18,7 @@ pub fn taken(c: u8) -> usize
 
 // The numbers of a form's line at a place, those that have room, and where the next line begins.
 pub fn line_at(s: &[u8], from: usize, form: &[u8]) -> Option<(ArrayVec<i32, MOST_NUMBERS>, usize)>
-    ensures { result ≡ held (line_at form.now s.now from) }
+    ensures { result ≡ held MOST_NUMBERS (line_at form.now s.now from) }
 {
     let mut numbers = ArrayVec::new();
     let mut at = from;

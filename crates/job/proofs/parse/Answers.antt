@@ -1,65 +1,59 @@
 -- `parse` meets its contract: the lines that were good so far decide the definition's steps, and the next one what is answered. Assumes nothing.
-use mathlib.Core.Path.{◌≡◌, refl, ◌∙◌, sym, ap}
-use lib.ListN.{length}
+use Rattle.std.proofs.Common.{◌≡◌, ◌∙◌, sym, ap, rules, Some, arith}
+use Rattle.std.specs.Option.{ok_or}
 use mir.Syntax.{w32}
 use mir.ValLaws.{to_z-of_z}
-use borrow.Author.Rules.{rules}
-use native.Mathlib.Omega.{arith}
-use borrow.Author.Tests.{le-leb}
-use Rattle.meaning.specs.Forms.{good, line_at, bits_form, input_form}
-use Rattle.meaning.specs.Job.{most_bytes, job_of, only, report_at}
-use Rattle.job.specs.Held.{parsed_of}
-use Rattle.job.proofs.Lines.{read_good, read_bad, order_good, order_bad, targets_none, targets_more, targets_all}
+use Rattle.meaning.specs.declared.Refusal.TheVariants as no
+use Rattle.meaning.specs.Forms.{line_at, bits_form, input_form}
+use Rattle.meaning.specs.Job.{only, report_at}
+use Rattle.job.proofs.Lines.{refusal_is, bad_1, bad_2, bad_3, bad_4, bad_5, job_read}
 use Rattle.job.proofs.parse.Goals as goal
-use Rattle.job.proofs.parse.Goals.{In-By, In-Number, In-Number-number_line}
+use Rattle.job.proofs.parse.Goals.{In_ok-bits, In_ok-input, In_ok-by_width}
 
 -- what the three lines say
-line1 : (c : In-Number)
-    → only (line_at bits_form c.args.s.now 0) ≡ good c.in-Number.bits c.in-Number.at
-line1 c = read_good _ _ _ (sym c.number_line.ensures ∙ c.in-Number.is)
+line1 : (c : In_ok-bits) → only (line_at bits_form c.args.s.now 0) ≡ Some (c.in_ok-bits.bits, c.in_ok-bits.at)
+line1 c = sym c.number_line.ensures ∙ c.in_ok-bits.ensures.ok_part
 
-line2 : (c : In-Number-number_line)
-    → only (line_at input_form c.args.s.now c.in-Number.at)
-    ≡ good c.in-Number-number_line.input c.in-Number-number_line.at
-line2 c = read_good _ _ _ (sym c.number_line-2.ensures ∙ c.in-Number-number_line.is)
+line2 : (c : In_ok-input) → only (line_at input_form c.args.s.now c.in_ok-bits.at) ≡ Some (c.in_ok-input.input, c.in_ok-input.at)
+line2 c = sym c.number_line-2.ensures ∙ c.in_ok-input.ensures.ok_part
 
-line3 : (c : In-By)
-    → report_at c.args.s.now c.in-Number-number_line.at
-    ≡ good c.in-By.by_width c.in-By.at
-line3 c = order_good _ _ _ (sym c.report_line.ensures ∙ c.in-By.is)
+line3 : (c : In_ok-by_width) → report_at c.args.s.now c.in_ok-input.at ≡ Some (c.in_ok-by_width.by_width, c.in_ok-by_width.at)
+line3 c = sym c.report_line.ensures ∙ c.in_ok-by_width.ensures.ok_part
 
-pub returns-in_default : goal.returns-in_default
-unfolding job_of
-returns-in_default c =
-    c.malformed-in_default.ensures ∙ rw (le-leb (length c.args.s.now) most_bytes (omega arith), read_bad _ (sym c.number_line.ensures ∙ c.in_default.is)) refl
+pub returns-in_err-bits : goal.returns-in_err-bits
+returns-in_err-bits c =
+    let e = c.in_err-bits.ensures in
+    refusal_is c.from_residual.result c.from_residual.ensures.1 (e.value ∙ ap (λ o. ok_or o (no.Job 1)) e.ok_part)
+    ∙ bad_1 c.args.s.now (omega arith) (sym c.number_line.ensures ∙ e.ok_part)
 
-pub returns-in_default-number_line : goal.returns-in_default-number_line
-unfolding job_of
-returns-in_default-number_line c =
-    c.malformed-in_default-number_line.ensures ∙ rw (le-leb (length c.args.s.now) most_bytes (omega arith), line1 (goal.at.returns-in_default-number_line c).In-Number, read_bad _ (sym c.number_line-2.ensures ∙ c.in_default-number_line.is)) refl
+pub returns-in_err-input : goal.returns-in_err-input
+returns-in_err-input c =
+    let e = c.in_err-input.ensures in
+    let at = goal.at.returns-in_err-input c in
+    refusal_is c.from_residual-in_err-input.result c.from_residual-in_err-input.ensures.1 (e.value ∙ ap (λ o. ok_or o (no.Job 2)) e.ok_part)
+    ∙ bad_2 c.args.s.now (omega arith) (line1 at.In_ok-bits) (sym c.number_line-2.ensures ∙ e.ok_part)
 
-pub returns-in_default-report_line : goal.returns-in_default-report_line
-unfolding job_of
-returns-in_default-report_line c =
-    c.malformed-in_default-report_line.ensures
-    ∙ rw (le-leb (length c.args.s.now) most_bytes (omega arith), line1 (goal.at.returns-in_default-report_line c).In-Number, line2 (goal.at.returns-in_default-report_line c).In-Number-number_line, order_bad _ (sym c.report_line.ensures ∙ c.in_default-report_line.is)) refl
+pub returns-in_err-by_width : goal.returns-in_err-by_width
+returns-in_err-by_width c =
+    let e = c.in_err-by_width.ensures in
+    let at = goal.at.returns-in_err-by_width c in
+    refusal_is c.from_residual-in_err-by_width.result c.from_residual-in_err-by_width.ensures.1 (e.value ∙ ap (λ o. ok_or o (no.Job 3)) e.ok_part)
+    ∙ bad_3 c.args.s.now (omega arith) (line1 at.In_ok-bits) (line2 at.In_ok-input) (sym c.report_line.ensures ∙ e.ok_part)
 
-pub returns-in_default-read : goal.returns-in_default-read
-unfolding job_of
-returns-in_default-read c =
-    c.malformed-in_default-read.ensures
-    ∙ rw (le-leb (length c.args.s.now) most_bytes (omega arith), line1 (goal.at.returns-in_default-read c).In-Number, line2 (goal.at.returns-in_default-read c).In-Number-number_line, line3 (goal.at.returns-in_default-read c).In-By, targets_none _ _ c.targets_line-found.ensures c.in_default-read.is) refl
+pub returns-in_err-targets : goal.returns-in_err-targets
+returns-in_err-targets c =
+    let e = c.in_err-targets.ensures in
+    let at = goal.at.returns-in_err-targets c in
+    refusal_is c.from_residual-in_err-targets.result c.from_residual-in_err-targets.ensures.1 (e.value ∙ ap (λ o. ok_or o (no.Job 4)) e.ok_part)
+    ∙ bad_4 c.args.s.now (omega arith) (line1 at.In_ok-bits) (line2 at.In_ok-input) (line3 at.In_ok-by_width) (sym c.targets_line.ensures ∙ e.ok_part)
 
 pub returns-then-at-s : goal.returns-then-at-s
-unfolding job_of
 returns-then-at-s c =
-    let m = targets_more c.args.s.now _ _ _ _ _ _ _ c.targets_line-found.ensures c.in-Listed.is c.if-at-s.true in
-    rw (le-leb (length c.args.s.now) most_bytes (omega arith), line1 (goal.at.returns-then-at-s c).In-Number, line2 (goal.at.returns-then-at-s c).In-Number-number_line, line3 (goal.at.returns-then-at-s c).In-By) (c.malformed-then-at-s.ensures ∙ ap parsed_of (sym m))
+    let at = goal.at.returns-then-at-s c in
+    bad_5 c.args.s.now (omega arith) (line1 at.In_ok-bits) (line2 at.In_ok-input) (line3 at.In_ok-by_width) (sym c.targets_line.ensures ∙ c.in_ok-targets.ensures.ok_part) c.if-at-s.true
 
 pub returns : goal.returns
-unfolding job_of
 returns c =
-    let b = to_z-of_z w32 c.in-Number.bits (search rules) in
-    let w = to_z-of_z w32 c.in-Number-number_line.input (search rules) in
-    rw (le-leb (length c.args.s.now) most_bytes (omega arith), line1 (goal.at.returns c).In-Number, line2 (goal.at.returns c).In-Number-number_line, line3 (goal.at.returns c).In-By, b, w)
-    (targets_all c.args.s.now _ _ _ _ _ _ _ c.targets_line-found.ensures c.in-Listed.is c.if-at-s.false)
+    let at = goal.at.returns c in
+    rw (to_z-of_z w32 c.in_ok-bits.bits (search rules), to_z-of_z w32 c.in_ok-input.input (search rules))
+    (job_read c.args.s.now (omega arith) (line1 at.In_ok-bits) (line2 at.In_ok-input) (line3 at.In_ok-by_width) (sym c.targets_line.ensures ∙ c.in_ok-targets.ensures.ok_part) c.if-at-s.false)
