@@ -1,11 +1,12 @@
 -- A job's lines, as a reader meets them: the numbers of the targets' line, one after the other, and what the lines that are read make of the job. Assumes nothing.
-use Rattle.std.proofs.Common.{◌≡◌, refl, ap, ◌∙◌, sym, Bool, true, false, List, [], ◌∷◌, ℕ, zero, suc, ◌+◌, ◌-◌, ◌<◌, ◌≤◌, length, take, get_or, ℤ, Some, None, Result, Ok, Err, IsErrAnd, arith}
+use Rattle.std.proofs.Common.{◌≡◌, refl, ap, ◌∙◌, sym, Bool, true, false, List, [], ◌∷◌, ℕ, zero, suc, ◌+◌, ◌-◌, ◌<◌, ◌≤◌, length, take, ℤ, Some, None, Result, Ok, Err, IsErrAnd, arith}
 use lib.Seq.{take_all}
 use Rattle.std.proofs.lemmas.Option.{some_pair_parts}
 use Rattle.arrayvec.specs.ArrayVec.{ArrayVec}
 use Rattle.meaning.specs.declared.Refusal.{Refusal}
 use Rattle.meaning.specs.declared.Refusal.TheVariants as no
-use borrow.Author.Tests.{lt-ltb, le-ltb, le-leb, lt-leb, eq-eqb, ne_eqb}
+use borrow.Author.Tests.{le-leb, lt-leb, eq-eqb, ne_eqb}
+use Rattle.std.proofs.lemmas.Bool.Decides.{nat_tests}
 use Rattle.meaning.specs.Text.{bytes, stands, number_at}
 use Rattle.meaning.specs.Forms.{Line, front, line_at, bits_form, input_form}
 use Rattle.meaning.specs.Job.{most_bytes, asks, only, report_at, numbers, targets_at, job_of}
@@ -14,50 +15,33 @@ use Rattle.laws.proofs.Text.Numerals.{no_some}
 use Rattle.text.specs.Held.{held}
 use Rattle.job.specs.Parsed.{parsed}
 
--- ---- the byte at a place
-
-module _ (s : List ℕ) (at c : ℕ) where
-  past_end : length s ≤ at → stands (c ∷ []) s at ≡ false
-  unfolding stands
-  past_end h = rw (le-ltb _ _ h) refl
-
-  byte_is : at < length s → get_or s at 0 ≡ c → stands (c ∷ []) s at ≡ true
-  unfolding stands
-  byte_is h e = rw (lt-ltb _ _ h, eq-eqb _ _ e) refl
-
-  other_byte : at < length s → (get_or s at 0 ≡ c → ⊥) → stands (c ∷ []) s at ≡ false
-  unfolding stands
-  other_byte h e = rw (lt-ltb _ _ h, ne_eqb _ _ e) refl
-
 -- ---- one number of the list, and what is behind it
 
-module _ (s : List ℕ) (at : ℕ) where
-  pub numbers_none : (most : ℕ) → number_at s at ≡ None → numbers most s at ≡ None
-  unfolding numbers
-  numbers_none zero e = refl
-  numbers_none (suc most) e = rw e refl
+-- where a line feed stands, no comma does
+no_comma : (s : List ℕ) (p : ℕ) → stands (bytes "\n") s p ≡ true → stands (bytes ",") s p ≡ false
+unfolding stands
+no_comma s p e = grind (arith, nat_tests)
+
+pub numbers_none : (s : List ℕ) (at most : ℕ) → number_at s at ≡ None → numbers most s at ≡ None
+unfolding numbers
+numbers_none s at zero e = refl
+numbers_none s at (suc most) e = rw e refl
 
 module _ (s : List ℕ) (at : ℕ) (z : ℤ) (p : ℕ) (e : number_at s at ≡ Some (z, p)) where
-  open_by : (most : ℕ) → stands (bytes ",") s p ≡ false → stands (bytes "\n") s p ≡ false → numbers most s at ≡ None
+  pub numbers_open : (most : ℕ) → stands (bytes ",") s p ≡ false → stands (bytes "\n") s p ≡ false → numbers most s at ≡ None
   unfolding numbers
-  open_by zero c f = refl
-  open_by (suc most) c f = rw (e, c, f) refl
+  numbers_open zero c f = refl
+  numbers_open (suc most) c f = rw (e, c, f) refl
 
-  pub numbers_cut : (most : ℕ) → length s ≤ p → numbers most s at ≡ None
-  numbers_cut most h = open_by most (past_end s p 44 h) (past_end s p 10 h)
-
-  pub numbers_open : (most : ℕ) → p < length s → (get_or s p 0 ≡ 44 → ⊥) → (get_or s p 0 ≡ 10 → ⊥) → numbers most s at ≡ None
-  numbers_open most h c f = open_by most (other_byte s p 44 h c) (other_byte s p 10 h f)
-
-  pub numbers_last : (most : ℕ) → 0 < most → p < length s → get_or s p 0 ≡ 10 → numbers most s at ≡ Some (z ∷ [], p + 1)
+  pub numbers_last : (most : ℕ) → 0 < most → stands (bytes "\n") s p ≡ true → numbers most s at ≡ Some (z ∷ [], p + 1)
   unfolding numbers
-  numbers_last zero n h f = absurd (omega arith)
-  numbers_last (suc most) n h f = rw (e, other_byte s p 44 h (λ c. omega arith), byte_is s p 10 h f) refl
+  numbers_last zero n f = absurd (omega arith)
+  numbers_last (suc most) n f = rw (e, no_comma s p f, f) refl
 
-  pub numbers_more : (most : ℕ) → 0 < most → p < length s → get_or s p 0 ≡ 44 → numbers most s at ≡ front z (numbers (most - 1) s (p + 1))
+  pub numbers_more : (most : ℕ) → 0 < most → stands (bytes ",") s p ≡ true → numbers most s at ≡ front z (numbers (most - 1) s (p + 1))
   unfolding numbers
-  numbers_more zero n h c = absurd (omega arith)
-  numbers_more (suc most) n h c = let k : suc most - 1 ≡ most = omega arith in rw (k, e, byte_is s p 44 h c) refl
+  numbers_more zero n c = absurd (omega arith)
+  numbers_more (suc most) n c = let k : suc most - 1 ≡ most = omega arith in rw (k, e, c) refl
 
 -- ---- the job, by the lines that are read
 

@@ -49,11 +49,13 @@ fn numbers(s: &[u8], from: usize) -> Option<(ArrayVec<i32, JOB_TARGETS>, usize)>
         let (z, next) = text::decimal::number(s, at)?;
         // A job's text is too short for more than fit.
         let _ = numbers.try_push(z);
-        match s.get(next)? {
-            b',' => at = next + 1,
-            b'\n' => return Some((numbers, next + 1)),
-            _ => return None,
+        if text::is(s, next, b'\n') {
+            return Some((numbers, next + 1));
         }
+        if !text::is(s, next, b',') {
+            return None;
+        }
+        at = next + 1;
     }
 }
 
