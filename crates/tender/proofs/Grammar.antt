@@ -12,12 +12,13 @@ use lib.ListN.{length, get_or, length-append}
 use mir.Syntax.{w32}
 use mir.Val.{SFits}
 use borrow.Author.Tests.{eq-eqb, ne_eqb, eqb-true, eqb-false, le-leb, lt-leb, leb-true, leb-false}
-use Rattle.meaning.specs.declared.Read.TheVariants.{Bad}
+use Rattle.std.specs.Prelude.{Some, None}
 use Rattle.meaning.specs.Text.{bytes, stands, number_at, text_of}
-use Rattle.meaning.specs.Forms.{Line, good, bad, front, line_at, bits_form, input_form, report_text}
+use Rattle.meaning.specs.Forms.{Line, front, line_at, bits_form, input_form, report_text}
 use Rattle.meaning.specs.Job.{Asked, Job, asks, malformed, most_bytes, only, report_at, numbers, targets_at, next, ended, job_of}
 use Rattle.laws.proofs.Text.Jobs.{no_job, cond_job, next_job}
-use Rattle.laws.proofs.Text.Lines.{Left, Taken, left_start, left_is, left_on, left_room, taken_on, no_line, cond_line, read_line, front_line, stands_taken, stands_back, stands_not, number_taken, number_back, number_not, AllFit, Exact, good_is, exact_as, number_exact, report_exact}
+use Rattle.laws.proofs.Text.Numerals.{no_some, under_test}
+use Rattle.laws.proofs.Text.Lines.{Left, Taken, left_start, left_is, left_on, left_room, taken_on, read_line, front_line, stands_taken, stands_back, stands_not, number_taken, number_back, number_not, AllFit, Exact, good_is, exact_as, number_exact, report_exact}
 use Rattle.tender.specs.Grammar.{Signed32, AllSigned32, bits_line, input_line, report_line, commas, targets_line, AsksFor, Kind, kinds, BadAt, MalformedAt}
 
 -- ---- signed 32-bit numbers
@@ -46,30 +47,30 @@ list_more z ys h = ap (λ (x : List ℕ). x ++ bytes "\n") (commas_more z ys h) 
 abbrev ListTaken : List ℕ → List ℕ → List ℤ → ℕ → Type 0
 ListTaken s rest zs p = AllFit zs × (0 < length zs) × Taken s rest (list zs) p
 
-numbers_taken : (most : ℕ) (s : List ℕ) (at : ℕ) (rest : List ℕ) (zs : List ℤ) (p : ℕ) → Left s at rest → numbers most s at ≡ good zs p → ListTaken s rest zs p
+numbers_taken : (most : ℕ) (s : List ℕ) (at : ℕ) (rest : List ℕ) (zs : List ℤ) (p : ℕ) → Left s at rest → numbers most s at ≡ Some (zs, p) → ListTaken s rest zs p
 unfolding numbers
-numbers_taken zero s at rest zs p l e = no_line e
+numbers_taken zero s at rest zs p l e = no_some e
 numbers_taken (suc most) s at rest zs p l e =
     let (z, q, r, g) = read_line (number_at s at) _ e in
     let (w, t) = number_taken l r in
     go z q w t (stands (bytes ",") s q) refl g (λ more ys m. numbers_taken most s (q + 1) more ys p m)
   where
     go : (z : ℤ) (q : ℕ) → SFits w32 z → (t : Taken s rest (text_of z) q) → (b : Bool) → stands (bytes ",") s q ≡ b
-        → cond b (front z (numbers most s (q + 1))) (cond (stands (bytes "\n") s q) (good (z ∷ []) (q + 1)) bad) ≡ good zs p
-        → ((more : List ℕ) (ys : List ℤ) → Left s (q + 1) more → numbers most s (q + 1) ≡ good ys p → ListTaken s more ys p) → ListTaken s rest zs p
+        → cond b (front z (numbers most s (q + 1))) (cond (stands (bytes "\n") s q) (Some (z ∷ [], q + 1)) None) ≡ Some (zs, p)
+        → ((more : List ℕ) (ys : List ℤ) → Left s (q + 1) more → numbers most s (q + 1) ≡ Some (ys, p) → ListTaken s more ys p) → ListTaken s rest zs p
     go z q w t true h g rec =
         let (ys, i, f) = front_line z (numbers most s (q + 1)) g in
         let c = stands_taken (bytes ",") t.left h in
         let (ws, n, u) = rec c.more ys c.left f in
         subst (λ xs. ListTaken s rest xs p) (sym i) ((w, ws), omega arith, subst (λ x. Taken s rest x p) (sym (list_more z ys n)) (taken_on t (taken_on c u)))
     go z q w t false h g rec =
-        let (i, f) = cond_line (stands (bytes "\n") s q) _ g in
+        let (i, f) = under_test (stands (bytes "\n") s q) _ g in
         good_is (ListTaken s rest) f ((w, tt), omega arith, taken_on t (stands_taken (bytes "\n") t.left i))
 
 -- a list is no longer in numbers than in bytes, so that the parser's count never stops it
 abbrev ListBack : ℕ → List ℕ → List ℕ → Type 0
 ListBack most s rest = (at : ℕ) (zs : List ℤ) → 0 < length zs → length (list zs) ≤ most → AllFit zs → Left s at (list zs ++ rest)
-    → numbers most s at ≡ good zs (at + length (list zs))
+    → numbers most s at ≡ Some (zs, at + length (list zs))
 
 back_more : (most : ℕ) (s rest : List ℕ) → ListBack most s rest → ListBack (suc most) s rest
 unfolding numbers
@@ -94,20 +95,20 @@ numbers_back : (most : ℕ) (s rest : List ℕ) → ListBack most s rest
 numbers_back zero s rest = λ at zs n m w l. let k = length-append (commas zs) (bytes "\n") in absurd (omega arith)
 numbers_back (suc most) s rest = back_more most s rest (numbers_back most s rest)
 
-numbers_none : (most : ℕ) (s : List ℕ) (at : ℕ) → number_at s at ≡ Bad → numbers most s at ≡ bad
+numbers_none : (most : ℕ) (s : List ℕ) (at : ℕ) → number_at s at ≡ None → numbers most s at ≡ None
 unfolding numbers
 numbers_none zero s at e = refl
 numbers_none (suc most) s at e = rw e refl
 
-targets_taken : (s : List ℕ) (at : ℕ) (rest : List ℕ) (zs : List ℤ) (p : ℕ) → Left s at rest → targets_at s at ≡ good zs p
+targets_taken : (s : List ℕ) (at : ℕ) (rest : List ℕ) (zs : List ℤ) (p : ℕ) → Left s at rest → targets_at s at ≡ Some (zs, p)
     → AllFit zs × Taken s rest (targets_line zs) p
 unfolding targets_at
 targets_taken s at rest zs p l e =
-    let (h, f) = cond_line (stands (bytes "targets=") s at) _ e in
+    let (h, f) = under_test (stands (bytes "targets=") s at) _ e in
     go (stands_taken (bytes "targets=") l h) (stands (bytes "\n") s (at + 8)) refl f
   where
     go : (t : Taken s rest (bytes "targets=") (at + 8)) (b : Bool) → stands (bytes "\n") s (at + 8) ≡ b
-        → cond b (good [] (at + 9)) (numbers (length s) s (at + 8)) ≡ good zs p → AllFit zs × Taken s rest (targets_line zs) p
+        → cond b (Some ([], at + 9)) (numbers (length s) s (at + 8)) ≡ Some (zs, p) → AllFit zs × Taken s rest (targets_line zs) p
     go t true h f =
         let j : at + 8 + 1 ≡ at + 9 = omega arith in
         good_is (λ xs q. AllFit xs × Taken s rest (targets_line xs) q) f
@@ -117,12 +118,12 @@ targets_taken s at rest zs p l e =
         (w, taken_on t u)
 
 -- a number does not begin with the line feed
-not_empty : (s : List ℕ) (at : ℕ) (rest : List ℕ) (zs : List ℤ) (p : ℕ) → Left s at rest → numbers (length s) s at ≡ good zs p → stands (bytes "\n") s at ≡ false
+not_empty : (s : List ℕ) (at : ℕ) (rest : List ℕ) (zs : List ℤ) (p : ℕ) → Left s at rest → numbers (length s) s at ≡ Some (zs, p) → stands (bytes "\n") s at ≡ false
 not_empty s at rest zs p l e =
-    stands_not (bytes "\n") l (λ more i. no_line (sym (numbers_none (length s) s at (number_not refl (λ q. omega arith) (left_is i l))) ∙ e))
+    stands_not (bytes "\n") l (λ more i. no_some (sym (numbers_none (length s) s at (number_not refl (λ q. omega arith) (left_is i l))) ∙ e))
 
 targets_back : (s : List ℕ) (at : ℕ) (rest : List ℕ) (zs : List ℤ) → AllFit zs → Left s at (targets_line zs ++ rest)
-    → targets_at s at ≡ good zs (at + length (targets_line zs))
+    → targets_at s at ≡ Some (zs, at + length (targets_line zs))
 unfolding targets_at
 targets_back s at rest [] w l =
     rw (stands_back (bytes "targets=") (bytes "\n" ++ rest) l, stands_back (bytes "\n") rest (left_on (bytes "targets=") (bytes "\n" ++ rest) l)) refl
@@ -224,7 +225,7 @@ module _ {A : Type 0} {Ok : A → Type 0} {text : A → List ℕ} {s : List ℕ}
       ⊎ ((line : List ℕ) × (more : List ℕ) × K line × (rest ≡ line ++ more) × Behind more))
   bad_next k p cont Behind after at rest l = (forth (read at) refl, ⊎_elim (λ (i, none). here i none (read at) refl) (λ (line, more, x, i, b). behind line more x i b))
     where
-      reads : (line more : List ℕ) → K line → rest ≡ line ++ more → (a : A) × (q : ℕ) × (read at ≡ good a q) × Left s q more
+      reads : (line more : List ℕ) → K line → rest ≡ line ++ more → (a : A) × (q : ℕ) × (read at ≡ Some (a, q)) × Left s q more
       reads line more x i =
           let (a, w, j) = of-kind line x in
           let m = left_is (i ∙ ap (λ (y : List ℕ). y ++ more) j) l in
@@ -233,14 +234,14 @@ module _ {A : Type 0} {Ok : A → Type 0} {text : A → List ℕ} {s : List ℕ}
       forth : (r : Line A) → read at ≡ r → next r k cont ≡ malformed p
           → ((p ≡ k) × ((line more : List ℕ) → K line → ¬ (rest ≡ line ++ more)))
           ⊎ ((line : List ℕ) × (more : List ℕ) × K line × (rest ≡ line ++ more) × Behind more)
-      forth (good a q) e h =
+      forth (Some (a, q)) e h =
           let (w, t) = exact.taken at rest a q l e in
           inr (text a, t.more, kind a w, t.begins, (after a q t.more t.left).0 h)
-      forth bad e h = inl (malformed_is h, λ line more x i. let (a, q, g, m) = reads line more x i in no_line (sym e ∙ g))
+      forth None e h = inl (malformed_is h, λ line more x i. let (a, q, g, m) = reads line more x i in no_some (sym e ∙ g))
 
       here : p ≡ k → ((line more : List ℕ) → K line → ¬ (rest ≡ line ++ more)) → (r : Line A) → read at ≡ r → next r k cont ≡ malformed p
-      here i none (good a q) e = let (w, t) = exact.taken at rest a q l e in absurd (none (text a) t.more (kind a w) t.begins)
-      here i none bad e = ap malformed (sym i)
+      here i none (Some (a, q)) e = let (w, t) = exact.taken at rest a q l e in absurd (none (text a) t.more (kind a w) t.begins)
+      here i none None e = ap malformed (sym i)
 
       behind : (line more : List ℕ) → K line → rest ≡ line ++ more → Behind more → next (read at) k cont ≡ malformed p
       behind line more x i b =
