@@ -9,10 +9,12 @@ use borrow.Author.Tests.{le-leb, lt-leb, eq-eqb, ne_eqb}
 use Rattle.std.proofs.lemmas.Bool.Decides.{nat_tests}
 use Rattle.meaning.specs.Text.{bytes, stands, number_at}
 use Rattle.meaning.specs.Forms.{Line, front, line_at, bits_form, input_form}
-use Rattle.meaning.specs.Job.{most_bytes, asks, only, report_at, numbers, targets_at, job_of}
+use Rattle.meaning.specs.Job as meaning
+use Rattle.meaning.specs.Job.{most_bytes, Asked, asks, malformed, only, report_at, numbers, targets_at, job_of}
 use Rattle.laws.proofs.Text.Asked.{most_targets_lem}
 use Rattle.laws.proofs.Text.Numerals.{no_some}
 use Rattle.text.specs.Held.{held}
+use Rattle.job.specs.declared.Job.{Job}
 use Rattle.job.specs.Parsed.{parsed}
 
 -- ---- one number of the list, and what is behind it
@@ -21,11 +23,6 @@ use Rattle.job.specs.Parsed.{parsed}
 no_comma : (s : List ℕ) (p : ℕ) → stands (bytes "\n") s p ≡ true → stands (bytes ",") s p ≡ false
 unfolding stands
 no_comma s p e = grind (arith, nat_tests)
-
-pub numbers_none : (s : List ℕ) (at most : ℕ) → number_at s at ≡ None → numbers most s at ≡ None
-unfolding numbers
-numbers_none s at zero e = refl
-numbers_none s at (suc most) e = rw e refl
 
 module _ (s : List ℕ) (at : ℕ) (z : ℤ) (p : ℕ) (e : number_at s at ≡ Some (z, p)) where
   pub numbers_open : (most : ℕ) → stands (bytes ",") s p ≡ false → stands (bytes "\n") s p ≡ false → numbers most s at ≡ None
@@ -97,3 +94,13 @@ module _ (s : List ℕ) (h : length s ≤ most_bytes) where
               let (ts, e, i) = held_some 128 _ e4 in
               let j = job_is ts e n in
               ap (λ x. Ok (record { head = record { bits = b; input = w; by_width = r }; targets = x })) (i ∙ ap (λ xs. record { items = xs }) (take_all 128 ts (most_targets_lem s _ j))) ∙ ap parsed (sym j)
+
+-- ---- the job of an answer
+
+pub job_asked : (x : meaning.Job) {v : Job} → Ok v ≡ parsed x → (j : Asked) × (x ≡ asks j) × (v ≡ record { head = j.head; targets = record { items = j.targets } })
+job_asked (asks j) e = (j, refl, cc)
+job_asked (malformed line) e = let k : ◌≡◌ {A = ℕ} 0 1 = cc in absurd (omega arith)
+
+pub job_malformed : (x : meaning.Job) {why : Refusal} → Err why ≡ parsed x → (line : ℕ) × (x ≡ malformed line) × (why ≡ no.Job line)
+job_malformed (asks j) e = let k : ◌≡◌ {A = ℕ} 0 1 = cc in absurd (omega arith)
+job_malformed (malformed line) e = (line, refl, cc)

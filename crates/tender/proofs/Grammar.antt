@@ -18,7 +18,7 @@ use Rattle.meaning.specs.Forms.{Line, front, line_at, bits_form, input_form, rep
 use Rattle.meaning.specs.Job.{Asked, Job, asks, malformed, most_bytes, only, report_at, numbers, targets_at, next, ended, job_of}
 use Rattle.laws.proofs.Text.Jobs.{no_job, cond_job, next_job}
 use Rattle.laws.proofs.Text.Numerals.{no_some, under_test}
-use Rattle.laws.proofs.Text.Lines.{Left, Taken, left_start, left_is, left_on, left_room, taken_on, read_line, front_line, stands_taken, stands_back, stands_not, number_taken, number_back, number_not, AllFit, Exact, good_is, exact_as, number_exact, report_exact}
+use Rattle.laws.proofs.Text.Lines.{Left, Taken, left_start, left_is, left_on, left_room, taken_on, read_line, front_line, stands_taken, stands_back, stands_not, number_taken, number_back, number_not, numbers_none, AllFit, Exact, good_is, exact_as, number_exact, report_exact}
 use Rattle.tender.specs.Grammar.{Signed32, AllSigned32, bits_line, input_line, report_line, commas, targets_line, AsksFor, Kind, kinds, BadAt, MalformedAt}
 
 -- ---- signed 32-bit numbers
@@ -95,11 +95,6 @@ numbers_back : (most : ℕ) (s rest : List ℕ) → ListBack most s rest
 numbers_back zero s rest = λ at zs n m w l. let k = length-append (commas zs) (bytes "\n") in absurd (omega arith)
 numbers_back (suc most) s rest = back_more most s rest (numbers_back most s rest)
 
-numbers_none : (most : ℕ) (s : List ℕ) (at : ℕ) → number_at s at ≡ None → numbers most s at ≡ None
-unfolding numbers
-numbers_none zero s at e = refl
-numbers_none (suc most) s at e = rw e refl
-
 targets_taken : (s : List ℕ) (at : ℕ) (rest : List ℕ) (zs : List ℤ) (p : ℕ) → Left s at rest → targets_at s at ≡ Some (zs, p)
     → AllFit zs × Taken s rest (targets_line zs) p
 unfolding targets_at
@@ -120,7 +115,7 @@ targets_taken s at rest zs p l e =
 -- a number does not begin with the line feed
 not_empty : (s : List ℕ) (at : ℕ) (rest : List ℕ) (zs : List ℤ) (p : ℕ) → Left s at rest → numbers (length s) s at ≡ Some (zs, p) → stands (bytes "\n") s at ≡ false
 not_empty s at rest zs p l e =
-    stands_not (bytes "\n") l (λ more i. no_some (sym (numbers_none (length s) s at (number_not refl (λ q. omega arith) (left_is i l))) ∙ e))
+    stands_not (bytes "\n") l (λ more i. no_some (sym (numbers_none s at (length s) (number_not refl (λ q. omega arith) (left_is i l))) ∙ e))
 
 targets_back : (s : List ℕ) (at : ℕ) (rest : List ℕ) (zs : List ℤ) → AllFit zs → Left s at (targets_line zs ++ rest)
     → targets_at s at ≡ Some (zs, at + length (targets_line zs))

@@ -6,9 +6,10 @@ use Rattle.laws.proofs.Text.Bytes.{stands_within}
 use mir.Syntax.{w32}
 use mir.ValLaws.{to_z-of_z}
 use Rattle.laws.proofs.Text.Numerals.{number_read}
+use Rattle.laws.proofs.Text.Lines.{numbers_none}
 use Rattle.text.specs.Held.{behind}
 use Rattle.text.proofs.Held.{push_on, behind_all}
-use Rattle.job.proofs.Lines.{numbers_none, numbers_open, numbers_last, numbers_more}
+use Rattle.job.proofs.Lines.{numbers_open, numbers_last, numbers_more}
 use Rattle.job.proofs.numbers.Goals as goal
 
 pub loop-z-init : goal.loop-z-init

@@ -3,7 +3,7 @@ use mathlib.Core.Path.{◌≡◌, refl, ap, ◌∙◌, sym, subst}
 use mathlib.Core.Bool.{Bool, true, false, cond, not, ◌&&◌}
 use mathlib.Core.List.{List, [], ◌∷◌, ◌++◌, append_assoc}
 use mathlib.Core.Logic.{◌↔◌}
-use Prim.Native.Nat.{ℕ, suc, ◌+◌}
+use Prim.Native.Nat.{ℕ, zero, suc, ◌+◌}
 use native.Mathlib.Nat.{add-zero}
 use native.Mathlib.Omega.{arith}
 use lib.Dec.{T, eqb, ltb}
@@ -18,7 +18,7 @@ use Rattle.std.proofs.lemmas.Option.{same_Some, some_pair_parts}
 use Rattle.meaning.specs.Basics.{every}
 use Rattle.meaning.specs.Text.{bytes, is_digit, span, stands, number_at, text_of}
 use Rattle.meaning.specs.Forms.{line_of, Line, on_read, front, read_number, read_byte, line_at, report_text}
-use Rattle.meaning.specs.Job.{only, report_at}
+use Rattle.meaning.specs.Job.{only, report_at, numbers}
 use Rattle.laws.proofs.Lists.Tests.{both_of, true_of}
 use Rattle.laws.proofs.Text.Numerals.{rest_cons, unsigned_none, number_plain, no_some, under_test, number_read}
 use Rattle.laws.proofs.Text.ReadBack.{read_back, number_text}
@@ -126,6 +126,12 @@ module _ {s : List ℕ} {at : ℕ} where
   number_not {c} {rest} d n l =
       number_plain s at (λ e. n (sym (left_first l) ∙ e))
       ∙ unsigned_none false s at (ap span (left_drop l) ∙ ap (λ (b : Bool). cond b (suc (span rest)) 0) d)
+
+-- and without one there is no list of them
+pub numbers_none : (s : List ℕ) (at most : ℕ) → number_at s at ≡ None → numbers most s at ≡ None
+unfolding numbers
+numbers_none s at zero e = refl
+numbers_none s at (suc most) e = rw e refl
 
 -- ---- forms and numbers
 

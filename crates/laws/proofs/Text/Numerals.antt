@@ -50,19 +50,6 @@ digit_of s false h e p = let z = span_stop s h e in let y : ⊥ = omega arith in
 pub span_digit : (s : List ℕ) {i : ℕ} → i < length s → 0 < span (drop i s) → is_digit (get_or s i 0) ≡ true
 span_digit s {i} h p = digit_of s (is_digit (get_or s i 0)) h refl p
 
-pub value_more : (s : List ℕ) (v : ℕ) {i to : ℕ} → i < to → to ≤ length s
-    → value_of v (take (to - i) (drop i s)) ≡ value_of (v * 10 + (get_or s i 0 - 48)) (take (to - (i + 1)) (drop (i + 1) s))
-value_more s v {i} {to} h k =
-    let l : i < length s = omega arith in
-    let e : to - i ≡ suc (to - (i + 1)) = omega arith in
-    ap (λ (q : ℕ). value_of v (take q (drop i s))) e
-    ∙ ap (λ (r : List ℕ). value_of v (take (suc (to - (i + 1))) r)) (rest_cons s l)
-
-pub value_end : (s : List ℕ) (v : ℕ) {i to : ℕ} → to ≤ i → value_of v (take (to - i) (drop i s)) ≡ v
-value_end s v {i} {to} h =
-    let e : to - i ≡ zero = omega arith in
-    ap (λ (q : ℕ). value_of v (take q (drop i s))) e
-
 -- ---- a run of more than 10 digits is out of range
 
 span_by : (b : Bool) (m n : ℕ) → m ≤ n → cond b (suc m) 0 ≤ suc n
