@@ -6,20 +6,19 @@ mod first_choice;
 mod remaining;
 mod rule;
 
-ghost use Rattle.std.specs.Prelude.{◌≡◌, [], ◌+◌, ◌*◌, ◌≤◌, length};
+ghost use Rattle.std.specs.Prelude.{◌≡◌, [], ◌+◌, ◌*◌, ◌≤◌, length, Ok};
 ghost use Rattle.constants.specs.Held.{kept};
-ghost use Rattle.meaning.specs.declared.Answer.TheVariants.{Accepted};
 ghost use Rattle.meaning.specs.Basics.{over};
 ghost use Rattle.meaning.specs.Limits.{limit as limits_limit, most_targets, most_rows};
 ghost use Rattle.meaning.specs.Graph.{row_length, flat};
-ghost use Rattle.meaning.specs.Refusals.{admitted};
+ghost use Rattle.meaning.specs.Refusals.{Accepted, admitted};
 ghost use Rattle.meaning.specs.Calls.{Generates};
 ghost use Rattle.search.specs.Held.{Started};
 ghost use Rattle.search.specs.Marks.{State};
 ghost use Rattle.generator.specs.Rule.{turned, Drawable};
 
 use constants::wanted::Wanted;
-use meaning::{Answer, Drawn, FULL_LENGTH, Refusal};
+use meaning::{FULL_LENGTH, Refusal};
 use search::ready::Ready;
 use search::{LONG_MAP, SHORT_MAP};
 
@@ -47,31 +46,28 @@ fn draw(map: &mut [u8], limit: u32, out: &mut [u32], w: Wanted) -> Ready
 }
 
 // The rows for an admitted list, by a map of zeros.
-fn rows_by(map: &mut [u8], b: u32, ts: &[i32], out: &mut [u32]) -> Drawn
+fn rows_by(map: &mut [u8], b: u32, ts: &[i32], out: &mut [u32]) -> u32
     requires { State (limits_limit b) map.old [] 0 × (admitted b ts.now ≡ Accepted) × (row_length * most_rows ≤ length out.old) }
-    ensures { Generates b ts.now result out.old out.new }
+    ensures { Generates b ts.now (Ok result) out.old out.new }
 {
     let limit = arith::limit(b);
     let set = draw(map, limit, out, constants::wanted::wanted_of(ts));
-    Drawn::Rows((set.count - 1) as u32)
+    (set.count - 1) as u32
 }
 
 // The rows of the generator's rule from the front of out, and how many they are. Refusals 1, 2, 3, 4; a 129th row is never
 // needed, so 8 does not come.
-pub fn generate(b: u32, ts: &[i32], out: &mut [u32]) -> Drawn
+pub fn generate(b: u32, ts: &[i32], out: &mut [u32]) -> Result<u32, Refusal>
     ensures { Generates b ts.now result out.old out.new }
 {
-    let answer = constants::admit(b, ts);
-    if let Answer::Refused(why) = answer {
-        return Drawn::Refused(why);
-    }
+    constants::admit(b, ts)?;
     if out.len() < FULL_LENGTH {
-        return Drawn::Refused(Refusal::Buffer);
+        return Err(Refusal::Buffer);
     }
     if search::short_serves(arith::limit(b)) {
         let mut short = [0u8; SHORT_MAP];
-        return rows_by(&mut short, b, ts, out);
+        return Ok(rows_by(&mut short, b, ts, out));
     }
     let mut long = [0u8; LONG_MAP];
-    rows_by(&mut long, b, ts, out)
+    Ok(rows_by(&mut long, b, ts, out))
 }
