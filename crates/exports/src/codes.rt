@@ -1,6 +1,6 @@
 // An answer as one signed number, for callers in other languages: what was asked for, or minus (1000 × number + place).
 ghost use Rattle.std.specs.Prelude.{◌≡◌, ℕ, ◌^◌, ◌<◌};
-ghost use Rattle.meaning.specs.declared.Answer.TheVariants.{Accepted};
+ghost use Rattle.meaning.specs.Refusals.{Accepted};
 ghost use Rattle.meaning.specs.declared.Printed.TheVariants.{Bytes};
 ghost use Rattle.exports.specs.Codes.{minus, refusal_code, coded, drawn_code, far_code, printed_code, formed_code};
 

@@ -4,7 +4,7 @@
 mod row_product;
 
 ghost use Rattle.std.specs.Prelude.{◌≡◌, map, ◌+◌, ◌≤◌, T, length, take};
-ghost use Rattle.meaning.specs.declared.Answer.TheVariants.{Accepted};
+ghost use Rattle.meaning.specs.Refusals.{Accepted};
 ghost use Rattle.meaning.specs.Basics.{every, over};
 ghost use Rattle.meaning.specs.Graph.{row_after, rows, values as graph_values, ready, is_served};
 ghost use Rattle.meaning.specs.Products.{row_product, products, target_product, target_products};
@@ -12,7 +12,7 @@ ghost use Rattle.meaning.specs.Refusals.{checked};
 ghost use Rattle.meaning.specs.Calls.{Multiplies};
 ghost use Rattle.products.specs.Worked.{Next, Graph, Made, Targets};
 
-use meaning::{Answer, MOST_READY, MOST_ROWS, Refusal};
+use meaning::{MOST_READY, MOST_ROWS, Refusal};
 
 // The product of the row after i rows, from the products of the indices before it.
 fn next_product(words: &[u32], i: usize, before: &[i64]) -> i64
@@ -36,10 +36,8 @@ fn products_of(n: usize, words: &[u32], x: i32) -> [i64; MOST_READY]
 {
     let mut made = [0i64; MOST_READY];
     made[0] = x as i64;
-    let mut i = 0;
-    while i < n {
+    for i in 0..n {
         made[i + 1] = next_product(words, i, &made[..i + 1]);
-        i += 1;
     }
     made
 }
@@ -60,11 +58,8 @@ fn write_targets(ts: &[i32], values: &[u32], made: &[i64], out: &mut [i64])
     requires { (length ts.now ≤ length out.old) × Made values.now made.now × T (every (is_served values.now) ts.now) }
     ensures { out.new ≡ over (map (target_product values.now made.now) ts.now) out.old }
 {
-    let mut k = 0;
-    while k < ts.len() {
-        let t = ts[k];
-        out[k] = target_product(values, made, t);
-        k += 1;
+    for (k, t) in ts.iter().enumerate() {
+        out[k] = target_product(values, made, *t);
     }
 }
 
@@ -88,16 +83,20 @@ fn work(b: u32, ts: &[i32], n: usize, words: &[u32], x: i32, out: &mut [i64])
 }
 
 // A product for each target. Refusals as check, then 4.
-pub fn multiply(b: u32, ts: &[i32], n: usize, words: &[u32], x: i32, out: &mut [i64]) -> Answer
+pub fn multiply(
+    b: u32,
+    ts: &[i32],
+    n: usize,
+    words: &[u32],
+    x: i32,
+    out: &mut [i64],
+) -> Result<(), Refusal>
     ensures { Multiplies b ts.now n words.now x result out.old out.new }
 {
-    let checked = graph::check(b, ts, n, words);
-    let Answer::Accepted = checked else {
-        return checked;
-    };
+    graph::check(b, ts, n, words)?;
     if out.len() < ts.len() {
-        return Answer::Refused(Refusal::Buffer);
+        return Err(Refusal::Buffer);
     }
     work(b, ts, n, words, x, out);
-    Answer::Accepted
+    Ok(())
 }

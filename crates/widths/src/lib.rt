@@ -9,17 +9,15 @@ ghost use Rattle.meaning.specs.Graph.{RowsIn, rows, values};
 ghost use Rattle.meaning.specs.Widths.{row_width, output_width};
 ghost use Rattle.meaning.specs.Calls.{Measures};
 
-use meaning::{Answer, MOST_ROWS, Refusal};
+use meaning::{MOST_ROWS, Refusal};
 
 // The rows' widths by their values, from the front.
 fn each_width(values: &[u32], input: u32, out: &mut [u32])
     requires { (input ≤ 32) × (length values.now ≤ length out.old) }
     ensures { out.new ≡ over (map (row_width input) values.now) out.old }
 {
-    let mut i = 0;
-    while i < values.len() {
-        out[i] = bits::row_width(values[i], input);
-        i += 1;
+    for (i, value) in values.iter().enumerate() {
+        out[i] = bits::row_width(*value, input);
     }
 }
 
@@ -38,26 +36,27 @@ fn output_widths(ts: &[i32], input: u32, from: usize, out: &mut [u32])
     requires { (input ≤ 32) × (from + length ts.now ≤ length out.old) }
     ensures { out.new ≡ over_at from (map (output_width input) ts.now) out.old }
 {
-    let mut i = 0;
-    while i < ts.len() {
-        let t = ts[i];
-        out[from + i] = bits::output_width(t, input);
-        i += 1;
+    for (i, t) in ts.iter().enumerate() {
+        out[from + i] = bits::output_width(*t, input);
     }
 }
 
 // Rows in row order, then outputs. Refusals as check, then 9, then 4.
-pub fn measure(b: u32, ts: &[i32], n: usize, words: &[u32], input: u32, out: &mut [u32]) -> Answer
+pub fn measure(
+    b: u32,
+    ts: &[i32],
+    n: usize,
+    words: &[u32],
+    input: u32,
+    out: &mut [u32],
+) -> Result<(), Refusal>
     ensures { Measures b ts.now n words.now input result out.old out.new }
 {
-    let sized = graph::check_width(b, ts, n, words, input);
-    let Answer::Accepted = sized else {
-        return sized;
-    };
+    graph::check_width(b, ts, n, words, input)?;
     if out.len() < n + ts.len() {
-        return Answer::Refused(Refusal::Buffer);
+        return Err(Refusal::Buffer);
     }
     row_widths(words, n, input, out);
     output_widths(ts, input, n, out);
-    Answer::Accepted
+    Ok(())
 }

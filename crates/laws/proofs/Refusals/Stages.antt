@@ -1,6 +1,6 @@
 -- The stages of a call: it accepts exactly if each stage does, and refuses exactly by the first stage that refuses; what a stage of one condition
 -- says; and stages followed by a lent buffer's. Assumes nothing.
-use mathlib.Core.Path.{◌≡◌, refl, sym, ap, ◌∙◌}
+use mathlib.Core.Path.{◌≡◌, refl, sym, ap, ◌∙◌, subst}
 use Rattle.std.specs.Prelude.{Result, Ok, Err, IsErrAnd}
 use mathlib.Core.Bool.{Bool, true, false, cond}
 use mathlib.Core.List.{List, [], ◌∷◌, ◌++◌}
@@ -162,6 +162,10 @@ module _ {A : Type 0} (stages : List Answer) (needed : ℕ) (ws old : List A) (r
 
   pub stage_refused : (why : Refusal) → r ≡ Err why → Done answer (given answer ws) r old old
   stage_refused why f = refused_done answer r why ws old (stops_at stages (buffer needed (length old) ∷ []) r why e f) f
+
+  -- the same of the answer that `?` hands on
+  pub stage_handed : (q : Answer) (why : Refusal) → r ≡ Err why → IsErrAnd q (λ x. x ≡ why) → Done answer (given answer ws) q old old
+  stage_handed q why f h = subst (λ a. Done answer (given answer ws) a old old) (f ∙ sym (handed_on q why h)) (stage_refused why f)
 
   past : r ≡ Accepted → answer ≡ first_of (buffer needed (length old) ∷ [])
   past f = passes_on stages (buffer needed (length old) ∷ []) r e f

@@ -26,24 +26,23 @@ pub overflow_cast-made : goal.overflow_cast-made
 overflow_cast-made c = rw (to_z-of_z w32 _ c.ranges.x) (wide _ c.ranges.x)
 
 pub loop-i-init : goal.loop-i-init
-loop-i-init c = (omega arith, refl, ap (λ z. z ∷ []) (to_z-of_z w64 _ (overflow_cast-made c)) ∙ fill_start c.args.words.now _ [])
+loop-i-init c = (refl, ap (λ z. z ∷ []) (to_z-of_z w64 _ (overflow_cast-made c)) ∙ fill_start c.args.words.now _ [])
 
 pub slice_bounds-next_product-end : goal.slice_bounds-next_product-end
 slice_bounds-next_product-end c = let s = c.loop-i in sym (length-take-le (s.i + 1) s.made (omega arith))
 
 pub next_product-requires : goal.next_product-requires
 next_product-requires c =
-    next_of _ _ c.requires _ (small (goal.at.next_product-requires c).Start) _ _ c.loop-i-test.true c.loop-i.invariant.2
+    next_of _ _ c.requires _ (small (goal.at.next_product-requires c).Start) _ _ (omega arith) c.loop-i.invariant.1
 
 pub loop-i-preserved : goal.loop-i-preserved
 loop-i-preserved c =
     let s = c.loop-i in (
-      omega arith,
-      simp length-set s.invariant.1,
-      rw (to_z-of_z w64 _ (fit c)) (fill_more _ _ s.i s.made _ (omega arith) s.invariant.2 c.next_product.ensures),
+      simp length-set s.invariant.0,
+      rw (to_z-of_z w64 _ (fit c)) (fill_more _ _ s.i s.made _ (omega arith) s.invariant.1 c.next_product.ensures),
     )
 
 pub returns : goal.returns
 returns c =
     let e : c.loop-i.i ≡ c.args.n = omega arith in
-    (rw (e, to_z-of_z w32 _ c.ranges.x) at c.loop-i.invariant.2)
+    (rw (e, to_z-of_z w32 _ c.ranges.x) at c.loop-i.invariant.1)

@@ -6,7 +6,4 @@ use Rattle.meaning.specs.Products.{products}
 use Rattle.products.proofs.products_of.Given as goal
 
 abbrev pub invariant-loop-i : goal.invariant-loop-i
-invariant-loop-i l = (l.i ≤ l.n) × (length l.made ≡ 129) × (take (l.i + 1) l.made ≡ products (rows l.i l.words) l.x)
-
-abbrev pub decreases-loop-i : goal.decreases-loop-i
-decreases-loop-i l = l.n - l.i
+invariant-loop-i l = (length l.made ≡ 129) × (take (l.i + 1) l.made ≡ products (rows l.i l.words) l.x)

@@ -1,4 +1,4 @@
--- `write_targets` meets its contract. The loop's invariant: the products of the targets passed stand in front, the rest as it was. Assumes nothing.
+-- `write_targets` meets its contract. Assumes nothing.
 use mathlib.Core.Path.{◌≡◌, refl, ◌∙◌}
 use native.Mathlib.Omega.{arith}
 use borrow.Author.Rules.{rules}
@@ -12,32 +12,29 @@ use Rattle.laws.proofs.Lists.Over.{over_start, over_more, over_end}
 use Rattle.meaning.specs.Products.{target_product}
 use Rattle.products.proofs.Laws.{every_at}
 use Rattle.products.proofs.write_targets.Goals as goal
-use Rattle.products.proofs.write_targets.Goals.{After-t-1, After-target_product}
+use Rattle.products.proofs.write_targets.Goals.{In-loop-k, After-target_product}
 
 -- the element that a turn reads, a number of 32 bits
-t_is : (c : After-t-1) → let t = get_or c.args.ts.now c.loop-k.k (pos 0) in to_z w32 (of_z w32 t) ≡ t
-t_is c = to_z-of_z w32 _ (record { sfits = c.t-1.given })
+t_is : (c : In-loop-k) → let t = get_or c.args.ts.now c.loop-k.k (pos 0) in to_z w32 (of_z w32 t) ≡ t
+t_is c = let h : SFits w32 (get_or c.args.ts.now c.loop-k.k (pos 0)) = search rules in to_z-of_z w32 _ h
 
 fit : (c : After-target_product) → SFits w64 c.target_product.result
 fit c = search rules
 
 pub loop-k-init : goal.loop-k-init
-loop-k-init c = let s = c.args in (omega arith, refl, over_start (target_product s.values.now s.made.now) s.ts.now s.out.now)
+loop-k-init c = let s = c.args in over_start (target_product s.values.now s.made.now) s.ts.now s.out.now
 
 pub target_product-requires : goal.target_product-requires
 target_product-requires c =
-    (c.requires.1, rw (t_is c) (every_at (is_served c.args.values.now) c.args.ts.now c.loop-k.k (pos 0) c.loop-k-test.true c.requires.2))
+    (c.requires.1, rw (t_is c) (every_at (is_served c.args.values.now) c.args.ts.now c.loop-k.k (pos 0) (omega arith) c.requires.2))
 
 pub loop-k-preserved : goal.loop-k-preserved
 loop-k-preserved c =
-    let l = c.loop-k in (
-      omega arith,
-      simp length-set l.invariant.1,
-      rw (to_z-of_z w64 _ (fit c), c.target_product.ensures, t_is (goal.at.loop-k-preserved c).After-t-1, l.invariant.2)
-          (over_more (target_product c.args.values.now c.args.made.now) c.args.ts.now (pos 0) c.args.out.now l.k c.loop-k-test.true c.requires.0),
-    )
+    let l = c.loop-k in
+    rw (to_z-of_z w64 _ (fit c), c.target_product.ensures, t_is (goal.at.loop-k-preserved c).In-loop-k, l.invariant)
+    (over_more (target_product c.args.values.now c.args.made.now) c.args.ts.now (pos 0) c.args.out.now l.k (omega arith) c.requires.0)
 
 pub returns : goal.returns
 returns c =
     let s = c.args in
-    c.loop-k.invariant.2 ∙ over_end (target_product s.values.now s.made.now) s.ts.now s.out.now c.loop-k.k (omega arith)
+    c.loop-k.invariant ∙ over_end (target_product s.values.now s.made.now) s.ts.now s.out.now c.loop-k.k (omega arith)

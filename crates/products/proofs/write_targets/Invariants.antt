@@ -7,7 +7,4 @@ use Rattle.meaning.specs.Products.{target_product}
 use Rattle.products.proofs.write_targets.Given as goal
 
 abbrev pub invariant-loop-k : goal.invariant-loop-k
-invariant-loop-k l = (l.k ≤ length l.ts) × (length l.out ≡ length l.initial.out) × (l.out ≡ over (map (target_product l.values l.made) (take l.k l.ts)) l.initial.out)
-
-abbrev pub decreases-loop-k : goal.decreases-loop-k
-decreases-loop-k l = length l.ts - l.k
+invariant-loop-k l = l.out ≡ over (map (target_product l.values l.made) (take l.k l.ts)) l.initial.out
