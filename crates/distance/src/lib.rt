@@ -9,7 +9,7 @@ ghost use Rattle.meaning.specs.Calls.{Distances};
 ghost use Rattle.search.specs.Marks.{long_limit, OddsIn, State};
 ghost use Rattle.distance.specs.Away.{Away};
 
-use meaning::{Answer, Far};
+use meaning::{Far, Refusal};
 use search::{LONG_MAP, SHORT_MAP};
 
 // The map of what one operation on the values reaches.
@@ -17,10 +17,8 @@ fn fill(map: &mut [u8], limit: u32, vals: &[u32])
     requires { State limit map.old vals.now 0 × OddsIn limit vals.now (length vals.now) }
     ensures { State limit map.new vals.now (length vals.now) }
 {
-    let mut n = 0;
-    while n < vals.len() {
-        search::add(map, limit, vals, n, vals[n]);
-        n += 1;
+    for (n, v) in vals.iter().enumerate() {
+        search::add(map, limit, vals, n, *v);
     }
 }
 
@@ -53,15 +51,12 @@ fn beyond_zero(limit: u32, vals: &[u32], c: u32) -> Far
 }
 
 // The distance of c from the ready list, or the refusal.
-pub fn distance(b: u32, vals: &[u32], c: u32) -> Far
+pub fn distance(b: u32, vals: &[u32], c: u32) -> Result<Far, Refusal>
     ensures { Distances b vals.now c result }
 {
-    let answer = ready_list::admit(b, vals, c);
-    if let Answer::Refused(why) = answer {
-        return Far::Refused(why);
-    }
+    ready_list::admit(b, vals, c)?;
     if arith::has(vals, vals.len(), c) {
-        return Far::Zero;
+        return Ok(Far::Zero);
     }
-    beyond_zero(arith::limit(b), vals, c)
+    Ok(beyond_zero(arith::limit(b), vals, c))
 }

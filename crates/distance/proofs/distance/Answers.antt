@@ -8,16 +8,18 @@ use native.Mathlib.Omega.{arith}
 use lib.ListN.{length, take}
 use lib.Seq.{take-length}
 use lib.Pow.{pow_mono}
+use Rattle.std.specs.Prelude.{Ok}
 use Rattle.meaning.specs.declared.Far.TheVariants.{Zero}
 use Rattle.meaning.specs.Basics.{has}
 use Rattle.meaning.specs.Distance.{distance}
 use Rattle.meaning.specs.Limits.{limit}
 use Rattle.meaning.specs.Refusals.{distance_told}
 use Rattle.laws.proofs.Lists.Index.{get_or_in}
+use Rattle.laws.proofs.Refusals.Stages.{handed_on}
 use Rattle.laws.proofs.Distance.Distances.{distance_told_lem, distance_refused, Askable, askable_of}
 use Rattle.search.specs.Marks.{OddsIn}
 use Rattle.distance.proofs.distance.Goals as goal
-use Rattle.distance.proofs.distance.Goals.{In_default}
+use Rattle.distance.proofs.distance.Goals.{In_ok-admit}
 
 ready : (b : ℕ) (vals : List ℕ) (c : ℕ) → Askable b vals c → OddsIn (limit b) vals (length vals)
 ready b vals c q = (omega arith, λ i h. q.values _ (get_or_in vals i 0 h))
@@ -31,29 +33,29 @@ found : (r : Bool) (vals : List ℕ) (c : ℕ) → r ≡ has (take (length vals)
 found r vals c e = sym (e ∙ ap (λ (xs : List ℕ). has xs c) (take-length vals))
 
 -- past the refusals
-asked : (c : In_default) → let a = c.args in Askable a.b a.vals.now a.c
-asked c = askable_of _ _ _ (sym c.admit-answer.ensures ∙ c.in_default.is)
+asked : (c : In_ok-admit) → let a = c.args in Askable a.b a.vals.now a.c
+asked c = askable_of _ _ _ (sym c.admit.ensures ∙ c.in_ok-admit.was)
 
-told : (c : In_default) → let a = c.args in
-    distance_told a.b a.vals.now a.c ≡ distance (limit a.b) a.vals.now a.c
-told c = distance_told_lem _ _ _ (sym c.admit-answer.ensures ∙ c.in_default.is)
+told : (c : In_ok-admit) → let a = c.args in
+    distance_told a.b a.vals.now a.c ≡ Ok (distance (limit a.b) a.vals.now a.c)
+told c = distance_told_lem _ _ _ (sym c.admit.ensures ∙ c.in_ok-admit.was)
 
-pub returns-in-Refused : goal.returns-in-Refused
-returns-in-Refused c =
-    sym (distance_refused _ _ _ _ (sym c.admit-answer.ensures ∙ c.in-Refused.is))
+pub returns-in_err-admit : goal.returns-in_err-admit
+returns-in_err-admit c =
+    handed_on _ _ c.from_residual.ensures.1 ∙ sym (distance_refused _ _ _ _ (sym c.admit.ensures ∙ c.in_err-admit.was))
 
 pub returns-then-has : goal.returns-then-has
 returns-then-has c =
     let a = c.args in
-    zero_is (limit a.b) a.vals.now a.c (found _ a.vals.now a.c c.has.ensures ∙ c.if-has.true) ∙ sym (told (goal.at.returns-then-has c).In_default)
+    ap Ok (zero_is (limit a.b) a.vals.now a.c (found _ a.vals.now a.c c.has.ensures ∙ c.if-has.true)) ∙ sym (told (goal.at.returns-then-has c).In_ok-admit)
 
 pub limit-requires : goal.limit-requires
-limit-requires c = let q = (asked (goal.at.limit-requires c).In_default).bits in omega arith
+limit-requires c = let q = (asked (goal.at.limit-requires c).In_ok-admit).bits in omega arith
 
 pub beyond_zero-requires : goal.beyond_zero-requires
 beyond_zero-requires c =
     let a = c.args in
-    let q = asked (goal.at.beyond_zero-requires c).In_default in
+    let q = asked (goal.at.beyond_zero-requires c).In_ok-admit in
     let m : 2 ^ a.b ≤ 2 ^ limit a.b = pow_mono {i = a.b} {j = limit a.b} (omega arith) in
     rw c.limit.ensures (
       omega (arith, q.bits),
@@ -67,4 +69,4 @@ beyond_zero-requires c =
 pub returns : goal.returns
 returns c =
     let a = c.args in
-    c.beyond_zero.ensures ∙ ap (λ L. distance L a.vals.now a.c) c.limit.ensures ∙ sym (told (goal.at.returns c).In_default)
+    ap Ok (c.beyond_zero.ensures ∙ ap (λ L. distance L a.vals.now a.c) c.limit.ensures) ∙ sym (told (goal.at.returns c).In_ok-admit)

@@ -11,9 +11,9 @@ use Rattle.meaning.specs.Basics.{all}
 use Rattle.meaning.specs.Limits.{between, bit_tests, most_ready}
 use Rattle.meaning.specs.Refusals.{ready_length, ready_values, target, distance_order, first_of}
 use Rattle.laws.proofs.Lists.Tests.{pair_all, T_of, all_of}
-use Rattle.laws.proofs.Refusals.Stages.{stops, passes, last, stops_at, passes_on}
+use Rattle.laws.proofs.Refusals.Stages.{handed_on, stops, passes, last, stops_at, passes_on}
 use Rattle.distance.proofs.ready_list.admit.Goals as goal
-use Rattle.distance.proofs.ready_list.admit.Goals.{After-odd_below, Else-not-within, Else-not-within-2, In-Accepted, Start}
+use Rattle.distance.proofs.ready_list.admit.Goals.{After-odd_below, Else-not-within, Else-not-within-2, In_ok-ready_values, Start}
 
 abbrev lengths : List ℕ → List Bool
 lengths vals = between 1 most_ready (length vals)
@@ -41,14 +41,14 @@ past_length : (c : Else-not-within-2) → let a = c.args in
     first_of (distance_order a.b a.vals.now a.c) ≡ first_of (ready_values a.b a.vals.now ∷ target a.b a.c ∷ [])
 past_length c =
     let a = c.args in
-    past_bits (goal.at.ready_values-values-requires c).Else-not-within ∙ passes (no.Ready 0) (lengths a.vals.now) (ready_values a.b a.vals.now ∷ target a.b a.c ∷ []) (lengths_hold c)
+    past_bits (goal.at.ready_values-requires c).Else-not-within ∙ passes (no.Ready 0) (lengths a.vals.now) (ready_values a.b a.vals.now ∷ target a.b a.c ∷ []) (lengths_hold c)
 
-past_values : (c : In-Accepted) → let a = c.args in
+past_values : (c : In_ok-ready_values) → let a = c.args in
     first_of (distance_order a.b a.vals.now a.c) ≡ first_of (target a.b a.c ∷ [])
 past_values c =
     let a = c.args in
     past_length (goal.at.odd_below-requires c).Else-not-within-2
-    ∙ passes_on (ready_values a.b a.vals.now ∷ []) (target a.b a.c ∷ []) c.ready_values-values.result (c.ready_values-values.ensures ∙ sym (last (ready_values a.b a.vals.now))) c.in-Accepted.is
+    ∙ passes_on (ready_values a.b a.vals.now ∷ []) (target a.b a.c ∷ []) c.ready_values.result (c.ready_values.ensures ∙ sym (last (ready_values a.b a.vals.now))) c.in_ok-ready_values.was
 
 pub returns-then-not-within : goal.returns-then-not-within
 returns-then-not-within c =
@@ -62,17 +62,18 @@ returns-then-not-within-2 c =
     (past_bits (goal.at.returns-then-not-within-2 c).Else-not-within
     ∙ stops (no.Ready 0) (lengths a.vals.now) (ready_values a.b a.vals.now ∷ target a.b a.c ∷ []) (sym c.within-2.ensures ∙ c.if-not-within-2.true))
 
-pub ready_values-values-requires : goal.ready_values-values-requires
-ready_values-values-requires c =
+pub ready_values-requires : goal.ready_values-requires
+ready_values-requires c =
     let q = all_of (lengths c.args.vals.now) (T_of (lengths_hold c)) in
-    (small (goal.at.ready_values-values-requires c).Else-not-within, leb→le _ _ q.1.0)
+    (small (goal.at.ready_values-requires c).Else-not-within, leb→le _ _ q.1.0)
 
-pub returns-in_default : goal.returns-in_default
-returns-in_default c =
+pub returns-in_err-ready_values : goal.returns-in_err-ready_values
+returns-in_err-ready_values c =
     let a = c.args in
-    stops_at (ready_values a.b a.vals.now ∷ []) (target a.b a.c ∷ []) c.ready_values-values.result _
-    (c.ready_values-values.ensures ∙ sym (last (ready_values a.b a.vals.now))) c.in_default.is
-    ∙ sym (past_length (goal.at.returns-in_default c).Else-not-within-2)
+    handed_on _ _ c.from_residual.ensures.1 ∙ sym c.in_err-ready_values.was
+    ∙ stops_at (ready_values a.b a.vals.now ∷ []) (target a.b a.c ∷ []) c.ready_values.result _
+    (c.ready_values.ensures ∙ sym (last (ready_values a.b a.vals.now))) c.in_err-ready_values.was
+    ∙ sym (past_length (goal.at.returns-in_err-ready_values c).Else-not-within-2)
 
 pub odd_below-requires : goal.odd_below-requires
 odd_below-requires c = let h = small (goal.at.odd_below-requires c).Else-not-within in omega arith
@@ -86,9 +87,9 @@ test_is c =
 pub returns-then-not-odd_below : goal.returns-then-not-odd_below
 returns-then-not-odd_below c =
     let a = c.args in
-    sym (past_values (goal.at.returns-then-not-odd_below c).In-Accepted ∙ stops no.Target (odd a.b a.c) [] (sym (test_is (goal.at.returns-then-not-odd_below c).After-odd_below) ∙ c.if-not-odd_below.true))
+    sym (past_values (goal.at.returns-then-not-odd_below c).In_ok-ready_values ∙ stops no.Target (odd a.b a.c) [] (sym (test_is (goal.at.returns-then-not-odd_below c).After-odd_below) ∙ c.if-not-odd_below.true))
 
 pub returns : goal.returns
 returns c =
     let a = c.args in
-    c.in-Accepted.is ∙ sym (past_values (goal.at.returns c).In-Accepted ∙ passes no.Target (odd a.b a.c) [] (sym (test_is (goal.at.returns c).After-odd_below) ∙ c.if-not-odd_below.false))
+    sym (past_values (goal.at.returns c).In_ok-ready_values ∙ passes no.Target (odd a.b a.c) [] (sym (test_is (goal.at.returns c).After-odd_below) ∙ c.if-not-odd_below.false))

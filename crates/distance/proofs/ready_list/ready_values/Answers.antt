@@ -1,5 +1,5 @@
 -- `ready_values` meets its contract. The loop's invariant: the answer for the list is the answer for what is left of it. Assumes nothing.
-use mathlib.Core.Path.{◌≡◌, refl, sym, ap, ◌∙◌}
+use mathlib.Core.Path.{◌≡◌, sym, ap, ◌∙◌}
 use mathlib.Core.Bool.{◌&&◌}
 use Prim.Native.Nat.{◌%◌, ◌^◌}
 use native.Mathlib.Omega.{arith}
@@ -18,30 +18,22 @@ test_is c =
     let v = get_or c.args.vals.now c.loop-i.i 0 in
     c.odd_below.ensures ∙ ap (λ L. eqb (v % 2) 1 && ltb v (2 ^ L)) c.limit-limit.ensures
 
-pub loop-i-init : goal.loop-i-init
-loop-i-init c = (omega arith, refl)
-
-pub odd_below-requires : goal.odd_below-requires
-odd_below-requires c = omega (arith, c.limit-limit.ensures)
-
 pub returns-then-not-odd_below : goal.returns-then-not-odd_below
 returns-then-not-odd_below c =
     let a = c.args in
     sym
-    (c.loop-i.invariant.1
-    ∙ each_hit no.Ready (fit a.b) 0 c.loop-i.i a.vals.now c.loop-i-test.true
+    (c.loop-i.invariant
+    ∙ each_hit no.Ready (fit a.b) 0 c.loop-i.i a.vals.now (omega arith)
     (sym (test_is (goal.at.returns-then-not-odd_below c).After-odd_below) ∙ c.if-not-odd_below.true))
 
 pub loop-i-preserved : goal.loop-i-preserved
 loop-i-preserved c =
-    let a = c.args in (
-      omega arith,
-      c.loop-i.invariant.1
-          ∙ each_miss no.Ready (fit a.b) 0 c.loop-i.i a.vals.now c.loop-i-test.true
-          (sym (test_is (goal.at.loop-i-preserved c).After-odd_below) ∙ c.if-not-odd_below.false),
-    )
+    let a = c.args in
+    c.loop-i.invariant
+    ∙ each_miss no.Ready (fit a.b) 0 c.loop-i.i a.vals.now (omega arith)
+    (sym (test_is (goal.at.loop-i-preserved c).After-odd_below) ∙ c.if-not-odd_below.false)
 
 pub returns : goal.returns
 returns c =
     let a = c.args in
-    sym (c.loop-i.invariant.1 ∙ each_end no.Ready (fit a.b) 0 c.loop-i.i a.vals.now c.loop-i-test.false)
+    sym (c.loop-i.invariant ∙ each_end no.Ready (fit a.b) 0 c.loop-i.i a.vals.now (omega arith))
