@@ -11,7 +11,7 @@ use lib.ListN.{length}
 use lib.Signed.{lt_z}
 use mir.Syntax.{w32}
 use mir.Val.{SFits}
-use Rattle.meaning.specs.declared.Formed.TheVariants.{Digits, Refused}
+use Rattle.std.specs.Prelude.{Ok, Err}
 use Rattle.meaning.specs.declared.Refusal.TheVariants as no
 use Rattle.meaning.specs.Basics.{over}
 use Rattle.meaning.specs.Digits.{Digit, nonzeros, lowest, above, canonic, opposite, form_of, is_minus, plus_places, minus_places, form_words}
@@ -120,18 +120,18 @@ module _ {t : ℤ} where
 
 -- ---- the call: 4 where there is no room, else the two words
 
-pub form_refused : (t : ℤ) (old : List ℕ) → length old < 2 → Done (canonic_told t (length old)) (canonic_written t (length old)) (Refused no.Buffer) old old
+pub form_refused : (t : ℤ) (old : List ℕ) → length old < 2 → Done (canonic_told t (length old)) (canonic_written t (length old)) (Err no.Buffer) old old
 unfolding canonic_told canonic_written
 form_refused t old h =
     let e = short_room 2 (length old) h in
     record { answers = ap (λ a. told a (nonzeros (form_of t))) (sym e); writes = sym (over_none old) ∙ ap (λ a. over (given a (form_words (form_of t))) old) (sym e) }
 
 pub form_done : (t : ℤ) (k : ℕ) (old new : List ℕ) → 2 ≤ length old → k ≡ nonzeros (form_of t) → new ≡ over (form_words (form_of t)) old
-    → Done (canonic_told t (length old)) (canonic_written t (length old)) (Digits k) old new
+    → Done (canonic_told t (length old)) (canonic_written t (length old)) (Ok k) old new
 unfolding canonic_told canonic_written
 form_done t k old new h f g =
     let e = enough_room 2 (length old) h in
     record {
-      answers = ap Digits f ∙ ap (λ a. told a (nonzeros (form_of t))) (sym e);
+      answers = ap Ok f ∙ ap (λ a. told a (nonzeros (form_of t))) (sym e);
       writes = g ∙ ap (λ a. over (given a (form_words (form_of t))) old) (sym e);
     }

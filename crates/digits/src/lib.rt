@@ -6,7 +6,7 @@ ghost use Rattle.meaning.specs.Digits.{above as digits_above, canonic, nonzeros,
 ghost use Rattle.meaning.specs.Calls.{WritesForm};
 ghost use Rattle.digits.specs.Held.{prefixes_held, near as held_near, end_sign, odd_part, last_prefix, places_held};
 
-use meaning::{Formed, Prefix, Refusal};
+use meaning::{Prefix, Refusal};
 
 // The prefixes of a number, shortest first; the places from `count` on are all zero.
 #[derive(Clone, Copy)]
@@ -164,14 +164,14 @@ pub fn places_of(t: i32) -> Places
 }
 
 // The two words of a constant's form over the front of `out`. Refusal 4.
-pub fn canonic_to(t: i32, out: &mut [u32]) -> Formed
+pub fn canonic_to(t: i32, out: &mut [u32]) -> Result<u32, Refusal>
     ensures { WritesForm t result out.old out.new }
 {
     if out.len() < 2 {
-        return Formed::Refused(Refusal::Buffer);
+        return Err(Refusal::Buffer);
     }
     let places = places_of(t);
     out[0] = places.plus;
     out[1] = places.minus;
-    Formed::Digits(places.count)
+    Ok(places.count)
 }

@@ -1,7 +1,6 @@
 use mathlib.Core.Path.{◌≡◌}
 use mathlib.Core.List.{map}
-use Prim.Native.Nat.{◌-◌, ◌≤◌}
-use lib.ListN.{length, take}
+use lib.ListN.{take}
 use Rattle.meaning.specs.Basics.{over}
 use Rattle.meaning.specs.Products.{target_product}
 use Rattle.products.proofs.write_targets.Given as goal
