@@ -1,6 +1,6 @@
 // A line read by its form: a text in which each # stands for a number.
 ghost use Rattle.std.specs.Prelude.{◌≡◌};
-ghost use Rattle.meaning.specs.Forms.{taken as forms_taken, line_at};
+ghost use Rattle.meaning.specs.Forms.{line_at};
 ghost use Rattle.text.specs.Held.{held};
 
 use crate::{decimal, is};
@@ -8,13 +8,6 @@ use arrayvec::ArrayVec;
 
 // How many of a line's numbers are kept.
 pub const MOST_NUMBERS: usize = 16;
-
-// How many numbers a form's byte takes.
-pub fn taken(c: u8) -> usize
-    ensures { result ≡ forms_taken c }
-{
-    usize::from(c == b'#')
-}
 
 // The numbers of a form's line at a place, those that have room, and where the next line begins.
 pub fn line_at(s: &[u8], from: usize, form: &[u8]) -> Option<(ArrayVec<i32, MOST_NUMBERS>, usize)>

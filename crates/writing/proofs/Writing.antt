@@ -1,12 +1,13 @@
 -- What was written: one text after the other, and the room that is left. Assumes nothing.
 use mathlib.Core.Path.{◌≡◌, refl, ap, ◌∙◌, sym}
 use mathlib.Core.Bool.{Bool, true, false, cond}
-use mathlib.Core.List.{List, [], ◌∷◌, ◌++◌, append_assoc}
+use mathlib.Core.List.{List, [], ◌∷◌, ◌++◌, append_assoc, append-nil}
 use Prim.Native.Nat.{ℕ, suc, ◌+◌, ◌-◌, ◌≤◌, ◌<◌}
+use native.Mathlib.Numerals.{add-one}
 use native.Mathlib.Omega.{arith}
 use lib.IntN.{ℤ, pos, negsuc, nat_abs}
-use lib.ListN.{length, take, drop, set, get_or, length-append}
-use lib.Seq.{sets, sets-eq, length-sets, drop-drop, take_all}
+use lib.ListN.{length, take, drop, set, get_or, length-append, drop_of_length-le}
+use lib.Seq.{sets, sets-eq, length-sets, drop-cons, drop-drop, take_all}
 use lib.Signed.{lt_z}
 use borrow.Author.Tests.{ltb-true, eq-eqb, ne_eqb}
 use mir.Syntax.{w64}
@@ -14,7 +15,7 @@ use mir.Val.{SFits, to_z, of_z}
 use mir.ValLaws.{to_z-of_z}
 use Rattle.meaning.specs.Forms.{piece, taken, line_of, lines_of}
 use Rattle.meaning.specs.Text.{unsigned_text, text_of}
-use Rattle.laws.proofs.Text.Forms.{line_more, line_end, lines_more, lines_part}
+use Rattle.laws.proofs.Text.Forms.{lines_more, lines_part}
 use Rattle.writing.specs.Wrote.{Wrote}
 
 -- two runs of stores are one, with no condition on the buffer's length
@@ -52,8 +53,14 @@ pub piece_byte : (b : ℕ) (z : ℤ) → (b ≡ 35 → ⊥) → b ∷ [] ≡ pie
 piece_byte b z h = sym (ap (λ (t : Bool). cond t (text_of z) (b ∷ [])) (ne_eqb b 35 h))
 
 -- the number that is written, which comes back through its bits, stands for #
-pub wrote_number : (b at n : ℕ) (z : ℤ) (d e : List ℕ) → SFits w64 z → b ≡ 35 → Wrote d at (text_of (to_z w64 (of_z w64 z))) e n → Wrote d at (piece b z) e n
-wrote_number b at n z d e h k w = same_text (piece_number b z k) (rw (to_z-of_z w64 z h) at w)
+pub wrote_number : (b at n : ℕ) (y z : ℤ) (d e : List ℕ) → SFits w64 y → y ≡ z → b ≡ 35 → Wrote d at (text_of (to_z w64 (of_z w64 y))) e n → Wrote d at (piece b z) e n
+wrote_number b at n y z d e h i k w = same_text (ap text_of i ∙ piece_number b z k) (rw (to_z-of_z w64 y h) at w)
+
+pub takes_one : (b : ℕ) (zs : List ℤ) → b ≡ 35 → drop (taken b) zs ≡ drop 1 zs
+takes_one b zs h = rw (eq-eqb b 35 h) refl
+
+pub takes_none : (b : ℕ) (zs : List ℤ) → (b ≡ 35 → ⊥) → drop (taken b) zs ≡ zs
+takes_none b zs h = rw (ne_eqb b 35 h) refl
 
 -- any two allowed results are equal
 pub one_wrote : {a b b' : ℕ} {d e e' t : List ℕ} → Wrote d a t e b → Wrote d a t e' b' → (e ≡ e') × (b ≡ b')
@@ -94,30 +101,43 @@ other_text (negsuc n) e = let y : ◌≡◌ {A = ℕ} 0 1 = cc in let z : ⊥ = 
 
 -- ---- a line, byte by byte of its form
 
--- i bytes of the form, which took n numbers, are written
-pub record Begun (form : List ℕ) (zs : List ℤ) (d : List ℕ) (a : ℕ) (e : List ℕ) (b n i : ℕ) : Type 0 where
+-- what is left of a form and of the numbers, one byte on
+module _ (form : List ℕ) (i : ℕ) (left : List ℤ) where
+  abbrev part : List ℕ
+  part = piece (get_or form i 0) (get_or left 0 (pos 0))
+
+  abbrev behind : List ℕ
+  behind = line_of (drop (i + 1) form) (drop (taken (get_or form i 0)) left)
+
+  line_next : i < length form → line_of (drop i form) left ≡ part ++ behind
+  unfolding line_of
+  line_next h = rw (drop-cons form i 0 h, add-one) refl
+
+  line_none : length form ≤ i → line_of (drop i form) left ≡ []
+  unfolding line_of
+  line_none h = rw (drop_of_length-le form {i = i} h) refl
+
+-- i bytes of the form are written, and `left` are the numbers that are not
+pub record Begun (form : List ℕ) (zs : List ℤ) (d : List ℕ) (a : ℕ) (e : List ℕ) (b : ℕ) (left : List ℤ) (i : ℕ) : Type 0 where
   pub done : List ℕ
-  pub whole : line_of form zs ≡ done ++ line_of (drop i form) (drop n zs)
+  pub whole : line_of form zs ≡ done ++ line_of (drop i form) left
   pub wrote : Wrote d a done e b
 
-pub begin : (form : List ℕ) (zs : List ℤ) (d : List ℕ) (a : ℕ) → a ≤ length d → Begun form zs d a d a 0 0
+pub begin : (form : List ℕ) (zs : List ℤ) (d : List ℕ) (a : ℕ) → a ≤ length d → Begun form zs d a d a zs 0
 begin form zs d a h = record { done = []; whole = refl; wrote = nothing d a h }
 
-module _ {form : List ℕ} {zs : List ℤ} {d : List ℕ} {a : ℕ} {e : List ℕ} {b n i : ℕ} (g : Begun form zs d a e b n i) where
-  abbrev part : List ℕ
-  part = piece (get_or form i 0) (get_or zs n (pos 0))
+module _ {form : List ℕ} {zs : List ℤ} {d : List ℕ} {a : ℕ} {e : List ℕ} {b : ℕ} {left : List ℤ} {i : ℕ} (g : Begun form zs d a e b left i) where
+  more : i < length form → line_of form zs ≡ (g.done ++ part form i left) ++ behind form i left
+  more h = g.whole ∙ ap (λ (l : List ℕ). g.done ++ l) (line_next form i left h) ∙ sym (append_assoc g.done (part form i left) (behind form i left))
 
-  pub part_room : i < length form → a + length (line_of form zs) ≤ length d → b + length part ≤ length e
-  part_room h k =
-      let more = line_more form zs i n g.done g.whole h in
-      let rest : List ℕ = line_of (drop (i + 1) form) (drop (n + taken (get_or form i 0)) zs) in
-      room part g.wrote (omega (arith, ap length more, length-append (g.done ++ part) rest))
+  pub part_room : i < length form → a + length (line_of form zs) ≤ length d → b + length (part form i left) ≤ length e
+  part_room h k = room (part form i left) g.wrote (omega (arith, ap length (more h), length-append (g.done ++ part form i left) (behind form i left)))
 
-  pub part_on : {f : List ℕ} {c : ℕ} → i < length form → Wrote e b part f c → Begun form zs d a f c (n + taken (get_or form i 0)) (i + 1)
-  part_on h w = record { done = g.done ++ part; whole = line_more form zs i n g.done g.whole h; wrote = g.wrote ⨾ w }
+  pub part_on : {f : List ℕ} {c : ℕ} → i < length form → Wrote e b (part form i left) f c → Begun form zs d a f c (drop (taken (get_or form i 0)) left) (i + 1)
+  part_on h w = record { done = g.done ++ part form i left; whole = more h; wrote = g.wrote ⨾ w }
 
   pub line_done : length form ≤ i → Wrote d a (line_of form zs) e b
-  line_done h = same_text (line_end form zs i n g.done g.whole h) g.wrote
+  line_done h = same_text (sym (g.whole ∙ ap (λ (l : List ℕ). g.done ++ l) (line_none form i left h) ∙ append-nil g.done)) g.wrote
 
 -- ---- lines of one form, line by line: k of them are written
 

@@ -1,10 +1,13 @@
 // Texts, and lines by their forms, written at a place of a lent buffer that has room for them; each function hands back the place behind its text.
 #![tactic(auto)]
 
-ghost use Rattle.std.specs.Prelude.{◌≡◌, ◌+◌, ◌≤◌, pos, length, get_or};
-ghost use Rattle.meaning.specs.Forms.{piece as forms_piece, line_of};
+ghost use Rattle.std.specs.Prelude.{◌≡◌, ◌+◌, ◌≤◌, pos, length, get_or, drop};
+ghost use Rattle.std.specs.Slice.Iter.{iter_rest};
+ghost use Rattle.meaning.specs.Forms.{piece as forms_piece, taken, line_of};
 ghost use Rattle.meaning.specs.Text.{unsigned_text, text_of};
 ghost use Rattle.writing.specs.Wrote.{Wrote};
+
+use std::slice::Iter;
 
 // A text.
 #[tactic(auto, using(crate::proofs::Writing::wrote_part))]
@@ -37,24 +40,26 @@ fn number(out: &mut [u8], at: usize, z: i64) -> usize
     decimal(out, at, z.unsigned_abs())
 }
 
-// What stands for a form's byte: the number for #, or the byte itself.
-#[tactic(auto, using(crate::proofs::Writing::wrote_number))]
-fn piece(out: &mut [u8], at: usize, c: u8, z: i64) -> usize
-    requires { at + length (forms_piece c z) ≤ length out.old }
-    ensures { Wrote out.old at (forms_piece c z) out.new result }
+// The next number; 0 where none is left.
+fn next(numbers: &mut Iter<i64>) -> i64
+    ensures value { result ≡ get_or (iter_rest numbers.old) 0 (pos 0) }
+    ensures rest { iter_rest numbers.new ≡ drop 1 (iter_rest numbers.old) }
+{
+    numbers.next().copied().unwrap_or(0)
+}
+
+// What stands for a form's byte: the next number for #, or the byte itself.
+#[tactic(auto, using(crate::proofs::Writing::wrote_number, crate::proofs::Writing::takes_one, crate::proofs::Writing::takes_none))]
+fn piece(out: &mut [u8], at: usize, c: u8, numbers: &mut Iter<i64>) -> usize
+    requires { at + length (forms_piece c (get_or (iter_rest numbers.old) 0 (pos 0))) ≤ length out.old }
+    ensures wrote { Wrote out.old at (forms_piece c (get_or (iter_rest numbers.old) 0 (pos 0))) out.new result }
+    ensures left { iter_rest numbers.new ≡ drop (taken c) (iter_rest numbers.old) }
 {
     if c == b'#' {
-        return number(out, at, z);
+        return number(out, at, next(numbers));
     }
     out[at] = c;
     at + 1
-}
-
-// The number at a place; 0 where none is left.
-fn nth(numbers: &[i64], i: usize) -> i64
-    ensures { result ≡ get_or numbers.now i (pos 0) }
-{
-    numbers.get(i).copied().unwrap_or(0)
 }
 
 // A line: a form with these numbers, one for each #.
@@ -63,10 +68,9 @@ pub fn put_line(out: &mut [u8], from: usize, form: &[u8], numbers: &[i64]) -> us
     ensures { Wrote out.old from (line_of form.now numbers.now) out.new result }
 {
     let mut at = from;
-    let mut next = 0;
+    let mut numbers = numbers.iter();
     for &c in form {
-        at = piece(out, at, c, nth(numbers, next));
-        next += text::forms::taken(c);
+        at = piece(out, at, c, &mut numbers);
     }
     at
 }

@@ -1,48 +1,19 @@
--- Lines by their forms: byte by byte of the form, number by number, line by line, and how long they are. Assumes nothing.
+-- Lines by their forms: number by number, line by line, and how long they are. Assumes nothing.
 use mathlib.Core.Path.{◌≡◌, refl, ap, ◌∙◌, sym}
 use mathlib.Core.Bool.{Bool, true, false, not, cond}
 use mathlib.Core.List.{List, [], ◌∷◌, ◌++◌, append_assoc, append-nil, Memᴰ}
 use Prim.Native.Nat.{ℕ, zero, suc, ◌+◌, ◌*◌, ◌/◌, ◌%◌, ◌^◌, ◌≤◌, ◌<◌}
-use native.Mathlib.Nat.{pow-suc, add-zero, mul-suc}
+use native.Mathlib.Nat.{pow-suc, mul-suc}
 use native.Mathlib.Numerals.{add-one}
 use native.Mathlib.Omega.{arith}
 use lib.Dec.{T, eqb, ltb}
 use lib.IntN.{ℤ, pos}
-use lib.ListN.{length, get_or, take, drop, length-append, drop_of_length-le}
-use lib.Seq.{drop-cons, drop-drop, get_or-drop}
+use lib.ListN.{length, get_or, take, drop, length-append}
 use borrow.Author.Tests.{lt-ltb}
 use Rattle.meaning.specs.Basics.{every}
 use Rattle.meaning.specs.Text.{bytes, decimal_in, unsigned_text, text_of}
-use Rattle.meaning.specs.Forms.{piece, taken, line_of, lines_of}
+use Rattle.meaning.specs.Forms.{line_of, lines_of}
 use Rattle.laws.proofs.Lists.Tests.{both_of}
-
--- a byte of a form takes one number, or none
-pub taken_most : (c : ℕ) → taken c ≤ 1
-taken_most c = go (eqb c 35)
-  where
-    go : (b : Bool) → cond b 1 0 ≤ 1
-    go true = omega arith
-    go false = omega arith
-
--- ---- a line in the order in which a writer makes it: the first i bytes of the form, which took n numbers, and the others
-
-module _ (form : List ℕ) (zs : List ℤ) (i n : ℕ) (done : List ℕ) (e : line_of form zs ≡ done ++ line_of (drop i form) (drop n zs)) where
-  abbrev part : List ℕ
-  part = piece (get_or form i 0) (get_or zs n (pos 0))
-
-  abbrev rest : List ℕ
-  rest = line_of (drop (i + 1) form) (drop (n + taken (get_or form i 0)) zs)
-
-  next : i < length form → line_of (drop i form) (drop n zs) ≡ part ++ rest
-  unfolding line_of
-  next h = rw (drop-cons form i 0 h, add-one i, get_or-drop n zs 0 (pos 0), add-zero n, drop-drop (taken (get_or form i 0)) n zs) refl
-
-  pub line_more : i < length form → line_of form zs ≡ (done ++ part) ++ rest
-  line_more h = e ∙ ap (λ (l : List ℕ). done ++ l) (next h) ∙ sym (append_assoc done part rest)
-
-  pub line_end : length form ≤ i → done ≡ line_of form zs
-  unfolding line_of
-  line_end h = sym (e ∙ ap (λ (l : List ℕ). done ++ line_of l (drop n zs)) (drop_of_length-le form h) ∙ append-nil done)
 
 -- ---- a line number by number: a form whose numbers have these texts before them, and its line behind what was written before
 
