@@ -1,21 +1,9 @@
--- The prefixes of a number in an array of sixteen, and the last of them; a form as two words with its count. Assumes nothing.
-use Rattle.std.specs.Prelude.{cond, List, ◌++◌, ℕ, ◌+◌, ◌-◌, ◌/◌, ◌%◌, ◌^◌, eqb, length, replicate}
+-- The last prefix of a number; a form as two words with its count. Assumes nothing.
+use Rattle.std.specs.Prelude.{cond, List, ℕ, ◌+◌, ◌-◌, ◌/◌, ◌%◌, ◌^◌, eqb}
 use Rattle.meaning.specs.declared.Prefix.{Prefix}
 use Rattle.meaning.specs.Basics.{zeros}
-use Rattle.meaning.specs.Digits.{Digit, nonzeros, prefixes, plus_places, minus_places}
+use Rattle.meaning.specs.Digits.{Digit, nonzeros, plus_places, minus_places}
 use Rattle.digits.specs.declared.Places.{Places}
-use Rattle.digits.specs.declared.Prefixes.{Prefixes}
-
--- a place that holds no prefix
-abbrev pub nothing : Prefix
-nothing = record { before = 0; gap = 0; s = 0; value = 0 }
-
--- a number of 32 bits has at most sixteen prefixes
-unfoldable pub held : List Prefix → List Prefix
-held ps = ps ++ replicate (16 - length ps) nothing
-
-unfoldable pub prefixes_held : ℕ → Prefixes
-prefixes_held n = record { count = length (prefixes n); list = held (prefixes n) }
 
 -- an odd number less its lowest digit: the multiple of 4 next to it
 abbrev pub near : ℕ → ℕ
@@ -25,7 +13,7 @@ near n = cond (eqb (n % 4) 3) (n + 1) (n - 1)
 abbrev pub end_sign : ℕ → ℕ
 end_sign n = cond (eqb (n % 4) 3) 1 0
 
-unfoldable pub odd_part : ℕ → ℕ
+abbrev pub odd_part : ℕ → ℕ
 odd_part n = n / 2 ^ zeros n
 
 -- the last prefix of an odd number above 1

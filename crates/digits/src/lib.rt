@@ -4,16 +4,10 @@
 ghost use Rattle.std.specs.Prelude.{◌≡◌, ◌<◌, length};
 ghost use Rattle.meaning.specs.Digits.{above as digits_above, canonic, nonzeros, prefixes as digits_prefixes, form_of, minus_places};
 ghost use Rattle.meaning.specs.Calls.{WritesForm};
-ghost use Rattle.digits.specs.Held.{prefixes_held, near as held_near, end_sign, odd_part, last_prefix, places_held};
+ghost use Rattle.digits.specs.Held.{near as held_near, end_sign, last_prefix, places_held};
 
+use arrayvec::ArrayVec;
 use meaning::{Prefix, Refusal};
-
-// The prefixes of a number, shortest first; the places from `count` on are all zero.
-#[derive(Clone, Copy)]
-pub struct Prefixes {
-    pub count: u32,
-    pub list: [Prefix; 16],
-}
 
 // A form as two words, the places of its digits 1 and of its digits -1, and how many digits are nonzero.
 #[derive(Clone, Copy)]
@@ -27,12 +21,10 @@ pub struct Places {
 fn above(n: u32) -> u32
     ensures { result ≡ digits_above n }
 {
-    if n % 4 == 3 {
-        return n / 2 + 1;
-    }
-    n / 2
+    if n % 4 == 3 { n / 2 + 1 } else { n / 2 }
 }
 
+#[tactic(auto, using(laws::proofs::Digits::Canonic::above_less, laws::proofs::Digits::Count::nonzeros_zero, laws::proofs::Digits::Count::nonzeros_step, laws::proofs::Digits::Count::few_seventeen))]
 pub fn nonzero_digits(n: u32) -> u32
     ensures { result ≡ nonzeros (canonic n) }
 {
@@ -50,82 +42,50 @@ fn near(n: u32) -> u64
     requires { 0 < n }
     ensures { result ≡ held_near n }
 {
-    let wide = n as u64;
-    if n % 4 == 3 {
-        return wide + 1;
-    }
-    wide - 1
+    let wide = u64::from(n);
+    if n % 4 == 3 { wide + 1 } else { wide - 1 }
 }
 
 // 1 where the lowest digit of an odd number is -1.
 fn sign(n: u32) -> u32
     ensures { result ≡ end_sign n }
 {
-    if n % 4 == 3 {
-        return 1;
-    }
-    0
-}
-
-fn odd_part(n: u64) -> u64
-    ensures { result ≡ odd_part n }
-{
-    if n == 0 {
-        return 0;
-    }
-    n >> u64::trailing_zeros(n)
+    u32::from(n % 4 == 3)
 }
 
 // The last prefix of an odd number above 1.
+#[tactic(auto, using(laws::proofs::Whole::Zeros::machine_is, crate::proofs::Laws::odd_word), unfolding(crate::specs::Held::last_prefix))]
 fn last_prefix(n: u32) -> Prefix
     requires { 1 < n }
     ensures { result ≡ last_prefix n }
 {
     let m = near(n);
-    let before = odd_part(m);
     Prefix {
-        before: before as u32,
-        gap: u64::trailing_zeros(m),
+        before: arith::odd_part(m) as u32,
+        gap: m.trailing_zeros(),
         s: sign(n),
         value: n,
     }
 }
 
-// How many prefixes a number has.
-fn prefix_count(n: u32) -> u32
-    ensures { result ≡ length (digits_prefixes n) }
+// The prefixes of a number, shortest first, each found from the one that it leaves. A number of 32 bits has sixteen at most.
+#[tactic(auto, using(crate::proofs::Laws::peel_start, crate::proofs::Laws::peel_room, crate::proofs::Laws::peel_falls, crate::proofs::Laws::peel_step, crate::proofs::Laws::peel_end))]
+pub fn prefixes_of(n: u32) -> ArrayVec<Prefix, 16>
+    ensures { result.items ≡ digits_prefixes n }
 {
-    let digits = nonzero_digits(n);
-    if digits == 0 {
-        return 0;
+    let mut prefixes = ArrayVec::new();
+    let mut left = arith::odd_part(u64::from(n)) as u32;
+    while left > 1 {
+        let last = last_prefix(left);
+        prefixes.push(last);
+        left = last.before;
     }
-    digits - 1
-}
-
-// From the longest prefix down, each from the one that it leaves.
-pub fn prefixes_of(n: u32) -> Prefixes
-    ensures { result ≡ prefixes_held n }
-{
-    let count = prefix_count(n);
-    let nothing = Prefix {
-        before: 0,
-        gap: 0,
-        s: 0,
-        value: 0,
-    };
-    let mut list = [nothing; 16];
-    let mut left = odd_part(n as u64) as u32;
-    let mut at = count as usize;
-    while at > 0 {
-        at -= 1;
-        let p = last_prefix(left);
-        list[at] = p;
-        left = p.before;
-    }
-    Prefixes { count, list }
+    prefixes.reverse();
+    prefixes
 }
 
 // The places of the digits -1: a word of at most half of n.
+#[tactic(auto, using(crate::proofs::FormWords::add_low, crate::proofs::FormWords::add_end, laws::proofs::Digits::Canonic::above_less, laws::proofs::Digits::Places::minus_half))]
 fn minus_places(n: u32) -> u32
     ensures { result ≡ minus_places (canonic n) }
 {
@@ -133,7 +93,7 @@ fn minus_places(n: u32) -> u32
     let mut power: u64 = 1;
     let mut rest = n;
     while rest > 0 {
-        minus += (sign(rest) as u64) * power;
+        minus += u64::from(sign(rest)) * power;
         power *= 2;
         rest = above(rest);
     }
@@ -149,18 +109,8 @@ pub fn places_of(t: i32) -> Places
     let low = minus_places(n);
     // n is the one word less the other
     let high = n + low;
-    if t < 0 {
-        return Places {
-            plus: low,
-            minus: high,
-            count,
-        };
-    }
-    Places {
-        plus: high,
-        minus: low,
-        count,
-    }
+    let (plus, minus) = if t < 0 { (low, high) } else { (high, low) };
+    Places { plus, minus, count }
 }
 
 // The two words of a constant's form over the front of `out`. Refusal 4.

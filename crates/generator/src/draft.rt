@@ -71,10 +71,9 @@ pub fn add_prefixes(map: &mut [u8], limit: u32, set: Ready, out: &mut [u32], c: 
     requires { Open limit set map.old out.old (length (rule_c (drawn_rows set out.old) (prefixes c))) × Servable limit c }
     ensures { Grown limit set (rule_c (drawn_rows set out.old) (prefixes c)) result map.new out.old out.new }
 {
-    let held = digits::prefixes_of(c);
-    let ps = &held.list[..held.count as usize];
+    let prefixes = digits::prefixes_of(c);
     let mut more = set;
-    for p in ps {
+    for p in prefixes.as_slice() {
         more = add_prefix(map, limit, more, out, *p);
     }
     more

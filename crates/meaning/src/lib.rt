@@ -67,7 +67,7 @@ pub struct Choice {
 
 // A prefix of a canonic form that ends at a nonzero digit: the one before it, the gap between their last digits,
 // s = 0 for digit 1 and 1 for digit -1, and its value.
-#[derive(Clone, Copy)]
+#[derive(Clone, Copy, Default)]
 pub struct Prefix {
     pub before: u32,
     pub gap: u32,

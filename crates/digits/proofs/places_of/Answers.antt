@@ -19,7 +19,7 @@ returns-then-t-lt0 c =
     let w = found_below _ _ _ _ (found (goal.at.returns-then-t-lt0 c).After-minus_places-low) (rw (to_z-of_z w32 _ c.ranges.t) at c.if-t-lt0.true) in
     words_held (record { plus = omega arith; minus = omega arith; digits = omega arith })
 
-pub returns : goal.returns
-returns c =
-    let w = found_above _ _ _ _ (found (goal.at.returns c).After-minus_places-low) (rw (to_z-of_z w32 _ c.ranges.t) at c.if-t-lt0.false) in
+pub returns-else-t-lt0 : goal.returns-else-t-lt0
+returns-else-t-lt0 c =
+    let w = found_above _ _ _ _ (found (goal.at.returns-else-t-lt0 c).After-minus_places-low) (rw (to_z-of_z w32 _ c.ranges.t) at c.if-t-lt0.false) in
     words_held (record { plus = omega arith; minus = omega arith; digits = omega arith })

@@ -1,20 +1,16 @@
--- `digits::prefixes_of` meets its contract. The loop's invariant: the array holds the prefixes from `at` on, and those of what is left belong below.
--- The place falls. Assumes nothing.
-use native.Mathlib.Omega.{arith}
-use Rattle.digits.proofs.Laws.{odd_le, fill_start, fill_high, fill_step, fill_end}
+-- `digits::prefixes_of` meets its contract. The loop's invariant: the prefixes of what is left, and those found, the other way round, are all. Assumes nothing.
+use Rattle.std.proofs.Common.{arith}
+use Rattle.digits.proofs.Laws.{peel_start, peel_room, peel_step, peel_end}
 use Rattle.digits.proofs.prefixes_of.Goals as goal
 
-pub overflow_cast-left : goal.overflow_cast-left
-overflow_cast-left c = omega (arith, c.odd_part-left.ensures, odd_le c.args.n)
+pub loop-left-init : goal.loop-left-init
+loop-left-init c = peel_start _ _ _ c.new-prefixes.ensures (rw c.from.ensures at c.odd_part-left.ensures)
 
-pub loop-at-init : goal.loop-at-init
-loop-at-init c = fill_start c.args.n _ _ (omega arith) c.odd_part-left.ensures c.prefix_count-count.ensures
+pub push-requires : goal.push-requires
+push-requires c = (omega arith, peel_room _ _ _ c.loop-left.invariant _ (omega arith) c.last_prefix-last.ensures (omega arith))
 
-pub last_prefix-p-requires : goal.last_prefix-p-requires
-last_prefix-p-requires c = fill_high _ _ _ _ c.loop-at.invariant (omega arith)
-
-pub loop-at-preserved : goal.loop-at-preserved
-loop-at-preserved c = fill_step _ _ _ _ _ c.loop-at.invariant (omega arith) c.last_prefix-p.ensures
+pub loop-left-preserved : goal.loop-left-preserved
+loop-left-preserved c = peel_step _ _ _ c.loop-left.invariant _ (omega arith) c.last_prefix-last.ensures _ c.push.ensures.items
 
 pub returns : goal.returns
-returns c = fill_end _ _ _ _ _ c.loop-at.invariant (omega arith) c.prefix_count-count.ensures
+returns c = peel_end _ _ _ c.loop-left.invariant _ (omega arith) (rw c.deref_mut.ensures.value at c.reverse.ensures.after)
