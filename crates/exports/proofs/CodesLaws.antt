@@ -2,7 +2,7 @@
 -- call: targets (16), rows (128), a ready list's values (129); a job is refused in its text, and its code has no place. A contract
 -- allows one code and one content of the lent slice. Assumes nothing.
 use mathlib.Core.Path.{◌≡◌, refl, sym, ap, ap₂, ◌∙◌, subst}
-use Rattle.std.specs.Prelude.{Ok, Err}
+use Rattle.std.specs.Prelude.{Result, Ok, Err}
 use mathlib.Core.Bool.{Bool, false, cond, ◌&&◌}
 use mathlib.Core.List.{List, [], ◌∷◌, ◌++◌}
 use Prim.Native.Nat.{ℕ, zero, suc, ◌+◌, ◌*◌, ◌/◌, ◌%◌, ◌^◌, ◌<◌, ◌≤◌}
@@ -21,17 +21,17 @@ use Rattle.meaning.specs.Refusals.{Answer, Accepted, number, place_of, Done, nee
 use Rattle.laws.proofs.Graph.Rows.{length_rows}
 use Rattle.laws.proofs.Refusals.Stages.{never_both, need_accepts, need_refuses}
 use Rattle.laws.proofs.Refusals.Members.{each_refuses}
-use Rattle.exports.specs.Codes.{minus, refusal_code, Coded}
+use Rattle.exports.specs.Codes.{minus, refusal_code, code, Coded}
 
 -- ---- one code
 
-pub one_told : {R : Type 0} (d : R) (code : R → ℤ) (r q : ℤ) → Coded (λ a. a ≡ d) code r → Coded (λ a. a ≡ d) code q → r ≡ q
-one_told d code r q x y = x.told ∙ ap code (x.call ∙ sym y.call) ∙ sym y.told
+pub one_told : {R : Type 0} (d : Result R Refusal) (told : R → ℕ) (r q : ℤ) → Coded (λ a. a ≡ d) told r → Coded (λ a. a ≡ d) told q → r ≡ q
+one_told d told r q x y = x.coded ∙ ap (code told) (x.call ∙ sym y.call) ∙ sym y.coded
 
-pub one_coded : {R A : Type 0} (d : R) (w before : List A) (code : R → ℤ) (r q : ℤ) (after later : List A)
-    → Coded (λ a. Done d w a before after) code r → Coded (λ a. Done d w a before later) code q → (r ≡ q) × (after ≡ later)
-one_coded d w before code r q after later x y =
-    (x.told ∙ ap code (x.call.answers ∙ sym y.call.answers) ∙ sym y.told, x.call.writes ∙ sym y.call.writes)
+pub one_coded : {R A : Type 0} (d : Result R Refusal) (w before : List A) (told : R → ℕ) (r q : ℤ) (after later : List A)
+    → Coded (λ a. Done d w a before after) told r → Coded (λ a. Done d w a before later) told q → (r ≡ q) × (after ≡ later)
+one_coded d w before told r q after later x y =
+    (x.coded ∙ ap (code told) (x.call.answers ∙ sym y.call.answers) ∙ sym y.coded, x.call.writes ∙ sym y.call.writes)
 
 -- ---- number and place
 

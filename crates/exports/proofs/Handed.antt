@@ -1,12 +1,12 @@
 -- What the calls for other languages share: an answer handed back as its code, and numbers that fit. Assumes nothing.
 use mathlib.Core.Path.{◌≡◌, sym, ap, ◌∙◌, subst}
-use Rattle.std.specs.Prelude.{Result, Ok, Err}
+use Rattle.std.specs.Prelude.{Result, Ok, Err, IsOkAnd, MatchResult}
 use mathlib.Core.Bool.{Bool, true, false, cond}
 use mathlib.Core.List.{List, [], ◌∷◌}
 use Prim.Native.Nat.{ℕ, ◌*◌, ◌≤◌}
 use native.Mathlib.Omega.{arith}
 use lib.Dec.{leb, leb→le}
-use lib.IntN.{ℤ}
+use lib.IntN.{ℤ, pos}
 use lib.ListN.{length, drop, length-append}
 use mir.Syntax.{w64}
 use mir.Val.{SFits, to_z, of_z}
@@ -16,28 +16,24 @@ use Rattle.meaning.specs.declared.Refusal.{Refusal}
 use Rattle.meaning.specs.declared.Refusal.TheVariants as no
 use Rattle.meaning.specs.Basics.{over}
 use Rattle.meaning.specs.Graph.{row_length}
-use Rattle.meaning.specs.Refusals.{Answer, Accepted, ranking_order, widths_order, ranked, measured}
+use Rattle.meaning.specs.Refusals.{Accepted, buffer, given, ranking_order, widths_order, ranked, measured}
 use Rattle.meaning.specs.Listing.{text_room, job_text, printed_told, text_written}
 use Rattle.meaning.specs.Calls.{Prints}
-use Rattle.laws.proofs.Refusals.Stages.{first_accepts, need_accepts}
-use Rattle.exports.specs.Codes.{coded, Coded}
+use Rattle.laws.proofs.Refusals.Stages.{first_accepts, need_accepts, told_accepts}
+use Rattle.exports.specs.Codes.{code, Coded}
 
--- the code of a refusal, or of acceptance, is that of the answer which was one
-pub refused_coded : (a : Answer) (why : Refusal) (m n : ℕ) → a ≡ Err why → coded (Err why) m ≡ coded a n
-unfolding coded
-refused_coded a why m n e = sym (ap (λ x. coded x n) e)
-
-pub accepted_coded : (a : Answer) (n : ℕ) → a ≡ Accepted → coded Accepted n ≡ coded a n
-accepted_coded a n e = sym (ap (λ x. coded x n) e)
+-- the code of a number that stands for what an answer tells is that answer's code
+pub code_mapped : {A : Type 0} (told : A → ℕ) (a : Result A Refusal) (n : Result ℕ Refusal)
+    → MatchResult a (λ x. IsOkAnd n (λ k. k ≡ told x)) (λ e. n ≡ Err e) → code (λ k. k) n ≡ code told a
+unfolding code
+code_mapped told (Ok x) (Ok k) h = ap pos h
+code_mapped told (Ok x) (Err e) h = absurd h
+code_mapped told (Err e) n h = ap (code (λ k. k)) h
 
 -- a call's answer, handed back as its code z
-pub handed : {R : Type 0} (Call : R → Type 0) (code : R → ℤ) (a : R) (z : ℤ) → SFits w64 z → z ≡ code a → Call a → Coded Call code (to_z w64 (of_z w64 z))
-handed Call code a z h e d = record { answer = a; call = d; told = to_z-of_z w64 z h ∙ e }
-
--- the same with m for acceptance
-pub handed_as : (Call : Answer → Type 0) (a : Answer) (n m : ℕ) (z : ℤ) → SFits w64 z → z ≡ coded a m → m ≡ n → Call a
-    → Coded Call (λ x. coded x n) (to_z w64 (of_z w64 z))
-handed_as Call a n m z h e f d = handed Call (λ x. coded x n) a z h (e ∙ ap (coded a) f) d
+pub handed : {A : Type 0} (Call : Result A Refusal → Type 0) (told : A → ℕ) (a : Result A Refusal) (z : ℤ) → SFits w64 z → z ≡ code told a → Call a
+    → Coded Call told (to_z w64 (of_z w64 z))
+handed Call told a z h e d = record { answer = a; call = d; coded = to_z-of_z w64 z h ∙ e }
 
 -- a constant handed on as z: the call is that of the constant
 pub for_constant : {R A : Type 0} (Call : ℤ → R → List A → List A → Type 0) (t : ℤ) {z : ℤ} {r : R} {before after : List A} → Call z r before after → z ≡ t
@@ -62,14 +58,9 @@ module _ (b : ℕ) (ts : List ℤ) (n : ℕ) (w : List ℕ) (input room : ℕ) w
       leb→le n most_rows (need_accepts no.RowCount (room_tests n w) s5).0
 
 -- a text that was written is within its buffer
-pub bytes_within : (s before after : List ℕ) (p : Result ℕ Refusal) (n : ℕ) → Prints s p before after
-    → p ≡ Ok n → length after ≡ length before → n ≤ length before
+pub bytes_within : (s before after : List ℕ) (n : ℕ) → Prints s (Ok n) before after → length after ≡ length before → n ≤ length before
 unfolding printed_told text_written over
-bytes_within s before after p n d e same = go (leb text_room (length before)) (sym e ∙ d.answers) d.writes
-  where
-    go : (t : Bool) → Ok n ≡ cond t (Ok (length (job_text s))) (Err no.Buffer) → after ≡ over (cond t (job_text s) []) before → n ≤ length before
-    go true f g =
-        let q : n ≡ length (job_text s) = cc in
-        let l = ap length g ∙ length-append (job_text s) (drop (length (job_text s)) before) in
-        omega (arith, q, l, same)
-    go false f g = absurd (let z : ◌≡◌ {A = ℕ} 0 1 = cc in omega arith)
+bytes_within s before after n d same =
+    let (a, e) = told_accepts (buffer text_room (length before)) (length (job_text s)) n d.answers in
+    let l = ap length (d.writes ∙ ap (λ x. over (given x (job_text s)) before) a) ∙ length-append (job_text s) (drop (length (job_text s)) before) in
+    omega (arith, e, l, same)

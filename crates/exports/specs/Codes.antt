@@ -1,10 +1,9 @@
 -- A call's answer as one signed number, for callers in other languages. Assumes nothing.
-use Rattle.std.specs.Prelude.{◌≡◌, ℕ, ◌+◌, ◌*◌, ℤ, pos, neg_ℤ}
-use Rattle.std.specs.Prelude.{Result, Ok, Err}
+use Rattle.std.specs.Prelude.{◌≡◌, ℕ, ◌+◌, ◌*◌, ℤ, pos, neg_ℤ, Result, Ok, Err}
 use Rattle.meaning.specs.declared.Far.{Far}
 use Rattle.meaning.specs.declared.Far.TheVariants as far
 use Rattle.meaning.specs.declared.Refusal.{Refusal}
-use Rattle.meaning.specs.Refusals.{Answer, number, place_of}
+use Rattle.meaning.specs.Refusals.{number, place_of}
 
 -- -k
 unfoldable pub minus : ℕ → ℤ
@@ -14,36 +13,20 @@ minus k = neg_ℤ (pos k)
 unfoldable pub refusal_code : Refusal → ℤ
 refusal_code why = minus (1000 * number why + place_of why)
 
--- n where the call accepts
-unfoldable pub coded : Answer → ℕ → ℤ
-coded (Ok _) n = pos n
-coded (Err why) n = refusal_code why
-
--- of the generator: its rows
-unfoldable pub drawn_code : Result ℕ Refusal → ℤ
-drawn_code (Ok n) = pos n
-drawn_code (Err why) = refusal_code why
+-- the number that stands for what the call tells, or its refusal's code
+unfoldable pub code : {A : Type 0} → (A → ℕ) → Result A Refusal → ℤ
+code told (Ok a) = pos (told a)
+code told (Err why) = refusal_code why
 
 -- of a distance: 0, 1, 2, and 3 for beyond
-unfoldable pub far_code : Far → ℤ
-far_code far.Zero = pos 0
-far_code far.One = pos 1
-far_code far.Two = pos 2
-far_code far.Beyond = pos 3
-far_code (Err why) = refusal_code why
+abbrev pub operations : Far → ℕ
+operations far.Zero = 0
+operations far.One = 1
+operations far.Two = 2
+operations far.Beyond = 3
 
--- of a job: the bytes of its text
-unfoldable pub printed_code : Result ℕ Refusal → ℤ
-printed_code (Ok n) = pos n
-printed_code (Err why) = refusal_code why
-
--- of a canonic form: its nonzero digits
-unfoldable pub formed_code : Result ℕ Refusal → ℤ
-formed_code (Ok n) = pos n
-formed_code (Err why) = refusal_code why
-
--- a call that answers a, handed back as the number r
-pub record Coded {R : Type 0} (Call : R → Type 0) (code : R → ℤ) (r : ℤ) : Type 0 where
-  pub answer : R
+-- a call whose answer is handed back as the number r
+pub record Coded {A : Type 0} (Call : Result A Refusal → Type 0) (told : A → ℕ) (r : ℤ) : Type 0 where
+  pub answer : Result A Refusal
   pub call : Call answer
-  pub told : r ≡ code answer
+  pub coded : r ≡ code told answer

@@ -1,7 +1,7 @@
 // Reads a job from standard input and prints its listing, or the line of its refusal.
 #![tactic(auto)]
 
-use meaning::{JOB_BYTES, Printed, TEXT_ROOM};
+use meaning::{JOB_BYTES, TEXT_ROOM};
 
 // The file descriptors that a program starts with.
 const STANDARD_INPUT: i32 = 0;
@@ -18,12 +18,10 @@ fn write(bytes: &[u8]) {
 }
 
 fn print(text: &[u8], out: &mut [u8]) {
-    let printed = reply::answer(text, out);
-    let Printed::Bytes(n) = printed else {
-        return;
-    };
-    if n <= out.len() {
-        write(&out[..n]);
+    if let Ok(n) = reply::answer(text, out) {
+        if n <= out.len() {
+            write(&out[..n]);
+        }
     }
 }
 
