@@ -1,14 +1,12 @@
 -- A job that is not malformed: a graph that was drawn for it and its listing, and the replies. Assumes nothing.
-use mathlib.Core.Path.{◌≡◌, refl, ap, ◌∙◌}
-use Rattle.std.specs.Prelude.{Err}
+use mathlib.Core.Path.{◌≡◌, refl, ap, sym, ◌∙◌}
+use Rattle.std.specs.Prelude.{Result, Ok, Err, IsErrAnd}
 use mathlib.Core.Bool.{Bool, true, false}
 use mathlib.Core.List.{List, []}
-use Prim.Native.Nat.{ℕ, ◌≤◌, ◌<◌}
+use Prim.Native.Nat.{ℕ, ◌≤◌}
 use native.Mathlib.Omega.{arith}
-use lib.IntN.{ℤ, pos, negsuc, nat_abs}
+use lib.IntN.{ℤ, pos}
 use lib.ListN.{get_or}
-use lib.Signed.{lt_z}
-use borrow.Author.Tests.{ltb-true}
 use mir.Syntax.{w32}
 use mir.Val.{SFits}
 use Rattle.meaning.specs.declared.Head.{Head}
@@ -16,7 +14,7 @@ use Rattle.meaning.specs.declared.Refusal.{Refusal}
 use Rattle.meaning.specs.declared.Refusal.TheVariants as no
 use Rattle.meaning.specs.declared.Row.{Row}
 use Rattle.meaning.specs.Basics.{all}
-use Rattle.meaning.specs.Job.{Asked, natural, bits_of, input_of}
+use Rattle.meaning.specs.Job.{Asked, bits_of, input_of}
 use Rattle.meaning.specs.Listing.{graph_in, listing_of, refused_line, reply_to, listing, text_room}
 use Rattle.meaning.specs.Limits.{width_tests}
 use Rattle.meaning.specs.Refusals.{Accepted, admitted}
@@ -25,17 +23,7 @@ use Rattle.laws.proofs.Text.Jobs.{reply_by, job_stops, job_passes}
 use Rattle.laws.proofs.Text.Room.{graph_room}
 use Rattle.laws.proofs.Refusals.Stages.{stops, passes}
 use Rattle.listing.specs.Parts.{Listable}
-use Rattle.reply.specs.Drawing.{Drawing}
-
--- ---- numbers that may be negative
-
-pub below_zero : (z : ℤ) → lt_z z (pos 0) ≡ true → 0 ≡ natural z
-below_zero (pos n) e = absurd (let h : n < 0 = ltb-true n 0 e in omega arith)
-below_zero (negsuc n) e = refl
-
-pub not_below : (z : ℤ) → lt_z z (pos 0) ≡ false → nat_abs z ≡ natural z
-not_below (pos n) e = refl
-not_below (negsuc n) e = absurd (let z : ◌≡◌ {A = ℕ} 0 1 = cc in omega arith)
+use Rattle.reply.specs.Drawing.{Drawing, Lists}
 
 -- ---- a graph that was drawn
 
@@ -52,6 +40,12 @@ module _ (h : Head) (ts : List ℤ) (w : List ℕ) (n : ℕ) (d : Drawing (bits_
         let g = good_of (bits_of h) ts n w d.accepted in
         let l = graph_room h ts n w (record { good = g; width = (low, high) }) fit in
         record { few = g.room.0; within = g.room.1; targets = g.admits.list.1; fits = omega arith }
+
+-- ---- a text that is listed, or refused
+
+pub lists_refused : (text before : List ℕ) (r : Result ℕ Refusal) (why : Refusal) → IsErrAnd r (λ y. y ≡ why) → text ≡ refused_line why → Lists text r before before
+lists_refused text before (Ok end) why h e = absurd h
+lists_refused text before (Err y) why h e = (e ∙ ap refused_line (sym h), refl)
 
 -- ---- the replies
 

@@ -3,25 +3,31 @@
 
 mod drawing;
 
+ghost use Rattle.std.specs.Prelude.{◌≤◌, length};
 ghost use Rattle.meaning.specs.Calls.{Prints};
+ghost use Rattle.meaning.specs.Listing.{job_text, text_room};
+ghost use Rattle.reply.specs.Drawing.{Lists};
 
-use job::Asks;
-use meaning::{Printed, Refusal, TEXT_ROOM};
+use meaning::{Refusal, TEXT_ROOM};
+
+// The listing of the job that a text asks for.
+fn list(s: &[u8], out: &mut [u8]) -> Result<usize, Refusal>
+    requires { text_room ≤ length out.old }
+    ensures { Lists (job_text s.now) result out.old out.new }
+{
+    let job = job::parse(s)?;
+    drawing::draw(out, job.head, &job.targets)
+}
 
 // What is printed for a job's text, from the front of out.
-pub fn answer(s: &[u8], out: &mut [u8]) -> Printed
+pub fn answer(s: &[u8], out: &mut [u8]) -> Result<usize, Refusal>
     ensures { Prints s.now result out.old out.new }
 {
     if out.len() < TEXT_ROOM {
-        return Printed::Refused(Refusal::Buffer);
+        return Err(Refusal::Buffer);
     }
-    let parsed = job::parse(s);
-    let asks = parsed.asks;
-    match asks {
-        Asks::Malformed(line) => Printed::Bytes(drawing::refused(out, Refusal::Job(line))),
-        Asks::Wants { head, count } => {
-            let ts = parsed.targets;
-            Printed::Bytes(drawing::draw(out, head, &ts[..count]))
-        }
+    match list(s, out) {
+        Ok(end) => Ok(end),
+        Err(why) => Ok(drawing::refused(out, why)),
     }
 }
