@@ -66,9 +66,9 @@ pub fn head_lines(out: &mut [u8], head: Head, adders: usize, csd: u32) -> usize
     requires { (adders ≤ most_rows) × (length (head_text head adders csd) ≤ length out.old) }
     ensures { Wrote out.old 0 (head_text head adders csd) out.new result }
 {
-    let at = number_line(out, 0, &BITS_FORM, head.bits as i64);
-    let at = number_line(out, at, &INPUT_FORM, head.input as i64);
+    let at = number_line(out, 0, &BITS_FORM, i64::from(head.bits));
+    let at = number_line(out, at, &INPUT_FORM, i64::from(head.input));
     let at = report(out, at, head.by_width);
     let at = number_line(out, at, b"adders=#\n", adders as i64);
-    number_line(out, at, b"csd=#\n", csd as i64)
+    number_line(out, at, b"csd=#\n", i64::from(csd))
 }

@@ -18,10 +18,8 @@ fn count_up(order: &mut [u32], n: usize)
     requires { (n ≤ most_rows) × (n ≤ length order.old) }
     ensures { order.new ≡ over (up_from 1 n) order.old }
 {
-    let mut i = 0;
-    while i < n {
+    for i in 0..n {
         order[i] = (i + 1) as u32;
-        i += 1;
     }
 }
 

@@ -15,7 +15,7 @@ use writing::put_line;
 fn wider(w: i32, e: u32) -> i64
     ensures { result ≡ w +ℤ pos e }
 {
-    w as i64 + (e as i64)
+    i64::from(w) + i64::from(e)
 }
 
 // The line of a row as row i.
@@ -25,14 +25,14 @@ fn row_line(out: &mut [u8], at: usize, input: i32, i: u32, x: Row) -> usize
 {
     let width = wider(input, row_width(x.value, 0));
     let numbers = [
-        i as i64,
-        x.u as i64,
-        x.v as i64,
-        x.l1 as i64,
-        x.l2 as i64,
-        x.s as i64,
-        x.r as i64,
-        x.value as i64,
+        i64::from(i),
+        i64::from(x.u),
+        i64::from(x.v),
+        i64::from(x.l1),
+        i64::from(x.l2),
+        i64::from(x.s),
+        i64::from(x.r),
+        i64::from(x.value),
         width,
     ];
     put_line(
@@ -56,12 +56,9 @@ pub fn row_lines(
     ensures { Wrote out.old from (lines_of row_form (rows_by input (rows n words.now) order.now)) out.new result }
 {
     let mut at = from;
-    let mut k = 0;
-    while k < order.len() {
-        let i = order[k];
-        let x = rows::row_after(words, i as usize - 1);
-        at = row_line(out, at, input, i, x);
-        k += 1;
+    for i in order {
+        let x = rows::row_after(words, *i as usize - 1);
+        at = row_line(out, at, input, *i, x);
     }
     at
 }
@@ -84,10 +81,10 @@ fn out_line(out: &mut [u8], at: usize, input: i32, values: &[u32], k: u32, t: i3
     let parts = constants::take_apart(t);
     let index = rows::output_index(values, parts.odd);
     let numbers = [
-        k as i64,
+        i64::from(k),
         index as i64,
-        parts.shift as i64,
-        parts.sign as i64,
+        i64::from(parts.shift),
+        i64::from(parts.sign),
         out_width(input, t),
     ];
     put_line(out, at, b"out=# row=# shift=# sign=# width=#\n", &numbers)
@@ -99,11 +96,8 @@ pub fn out_lines(out: &mut [u8], from: usize, input: i32, values: &[u32], ts: &[
     ensures { Wrote out.old from (lines_of out_form (outs_from input values.now 1 ts.now)) out.new result }
 {
     let mut at = from;
-    let mut k = 0;
-    while k < ts.len() {
-        let t = ts[k];
-        at = out_line(out, at, input, values, (k + 1) as u32, t);
-        k += 1;
+    for (k, t) in ts.iter().enumerate() {
+        at = out_line(out, at, input, values, (k + 1) as u32, *t);
     }
     at
 }

@@ -1,9 +1,9 @@
 -- `head_lines` meets its contract: five lines, one after the other. Assumes nothing.
-use mathlib.Core.Path.{◌≡◌, ap, ◌∙◌}
+use mathlib.Core.Path.{◌≡◌, ◌∙◌}
 use mathlib.Core.List.{List, [], ◌∷◌, ◌++◌}
 use Prim.Native.Nat.{ℕ, ◌+◌, ◌≤◌}
 use native.Mathlib.Omega.{arith}
-use lib.IntN.{ℤ, pos}
+use lib.IntN.{pos}
 use lib.ListN.{length}
 use mir.Syntax.{w32, w64}
 use mir.Val.{SFits, to_z, of_z}
@@ -12,11 +12,10 @@ use borrow.Author.Rules.{rules}
 use Rattle.meaning.specs.Forms.{line_of, bits_form, input_form, report_text, adders_form, csd_form}
 use Rattle.meaning.specs.declared.Head.{Head}
 use Rattle.meaning.specs.Listing.{head_text}
-use Rattle.laws.proofs.Whole.Signed.{wide}
 use Rattle.writing.specs.Wrote.{Wrote}
 use Rattle.writing.proofs.Writing.{◌⨾◌, room, front_fits}
 use Rattle.listing.proofs.head.head_lines.Goals as goal
-use Rattle.listing.proofs.head.head_lines.Goals.{After-number_line-at, After-number_line-at-2, After-number_line-at-3, After-report-at, Start}
+use Rattle.listing.proofs.head.head_lines.Goals.{After-from, After-from-2, After-from-3, After-number_line-at, After-number_line-at-2, After-number_line-at-3, After-report-at, Start}
 
 -- the texts, up to each line
 abbrev bits : Head → List ℕ
@@ -53,28 +52,37 @@ module _ (h : Head) (n k places : ℕ) (whole_fits : length (head_text h n k) �
   fits1 = front_fits 0 (bits h) (line_of input_form (h.input ∷ [])) fits2
 
 -- the numbers, in 64 bits
-whole : (z : ℤ) → SFits w32 z → to_z w64 (of_z w64 (to_z w32 (of_z w32 z))) ≡ z
-whole z h = ap (λ (y : ℤ). to_z w64 (of_z w64 y)) (to_z-of_z w32 z h) ∙ to_z-of_z w64 z (wide z h)
+bits_is : (c : After-from) → to_z w64 (of_z w64 c.from.result) ≡ c.args.head.bits
+bits_is c =
+    let h : SFits w64 c.from.result = search rules in
+    let k : SFits w32 c.args.head.bits = search rules in
+    to_z-of_z w64 _ h ∙ c.from.ensures ∙ to_z-of_z w32 _ k
 
-bits_fit : (f : Start) → SFits w32 f.args.head.bits
-bits_fit f = search rules
-
-input_fits : (f : Start) → SFits w32 f.args.head.input
-input_fits f = search rules
+input_is : (c : After-from-2) → to_z w64 (of_z w64 c.from-2.result) ≡ c.args.head.input
+input_is c =
+    let h : SFits w64 c.from-2.result = search rules in
+    let k : SFits w32 c.args.head.input = search rules in
+    to_z-of_z w64 _ h ∙ c.from-2.ensures ∙ to_z-of_z w32 _ k
 
 adders_is : (f : Start) → to_z w64 f.args.adders ≡ pos f.args.adders
 adders_is f = to_z_pos w64 _ (omega (arith, f.requires.0))
 
-csd_is : (f : Start) → to_z w64 f.args.csd ≡ pos f.args.csd
-csd_is f = to_z_pos w64 _ (let h = f.ranges.csd.fits in omega arith)
+csd_is : (c : After-from-3) → to_z w64 (of_z w64 c.from-3.result) ≡ pos c.args.csd
+csd_is c = let h : SFits w64 c.from-3.result = search rules in to_z-of_z w64 _ h ∙ c.from-3.ensures
 
 -- what is written up to each line
 wrote1 : (c : After-number_line-at) → Wrote c.args.out.now 0 (bits c.args.head) c.number_line-at.new.out c.number_line-at.result
-wrote1 c = let h : SFits w32 c.args.head.bits = search rules in rw (whole _ h) at c.number_line-at.ensures
+wrote1 c =
+    let h : SFits w64 c.from.result = search rules in
+    let k : SFits w32 c.args.head.bits = search rules in
+    rw (to_z-of_z w64 _ h, c.from.ensures, to_z-of_z w32 _ k) at c.number_line-at.ensures
 
 wrote2 : (c : After-number_line-at-2) → Wrote c.args.out.now 0 (bits c.args.head) c.number_line-at.new.out c.number_line-at.result
     → Wrote c.args.out.now 0 (input c.args.head) c.number_line-at-2.new.out c.number_line-at-2.result
-wrote2 c w = let h : SFits w32 c.args.head.input = search rules in w ⨾ rw (whole _ h) at c.number_line-at-2.ensures
+wrote2 c w =
+    let h : SFits w64 c.from-2.result = search rules in
+    let k : SFits w32 c.args.head.input = search rules in
+    w ⨾ rw (to_z-of_z w64 _ h, c.from-2.ensures, to_z-of_z w32 _ k) at c.number_line-at-2.ensures
 
 wrote3 : (c : After-report-at) → Wrote c.args.out.now 0 (input c.args.head) c.number_line-at-2.new.out c.number_line-at-2.result
     → Wrote c.args.out.now 0 (order c.args.head) c.report-at.new.out c.report-at.result
@@ -86,22 +94,14 @@ wrote4 c w =
     let e : to_z w64 c.args.adders ≡ pos c.args.adders = to_z_pos w64 _ (omega (arith, c.requires.0)) in
     w ⨾ rw e at c.number_line-at-3.ensures
 
-pub overflow_cast-head : goal.overflow_cast-head
-overflow_cast-head c =
-    rw (to_z-of_z w32 _ (bits_fit (goal.at.overflow_cast-head c).Start)) (wide _ (bits_fit (goal.at.overflow_cast-head c).Start))
-
 pub number_line-at-requires : goal.number_line-at-requires
 number_line-at-requires c =
-    rw (whole _ (bits_fit (goal.at.number_line-at-requires c).Start)) (fits1 c.args.head c.args.adders c.args.csd _ c.requires.1)
-
-pub overflow_cast-head-2 : goal.overflow_cast-head-2
-overflow_cast-head-2 c =
-    rw (to_z-of_z w32 _ (input_fits (goal.at.overflow_cast-head-2 c).Start)) (wide _ (input_fits (goal.at.overflow_cast-head-2 c).Start))
+    rw (bits_is c) (fits1 c.args.head c.args.adders c.args.csd _ c.requires.1)
 
 pub number_line-at-requires-2 : goal.number_line-at-requires-2
 number_line-at-requires-2 c =
     let w1 = wrote1 (goal.at.number_line-at-requires-2 c).After-number_line-at in
-    rw (whole _ (input_fits (goal.at.number_line-at-requires-2 c).Start)) (room _ w1 (fits2 c.args.head c.args.adders c.args.csd _ c.requires.1))
+    rw (input_is c) (room _ w1 (fits2 c.args.head c.args.adders c.args.csd _ c.requires.1))
 
 pub report-at-requires : goal.report-at-requires
 report-at-requires c =
@@ -116,18 +116,13 @@ number_line-at-requires-3 c =
     let w3 = wrote3 (goal.at.number_line-at-requires-3 c).After-report-at w2 in
     rw (adders_is (goal.at.number_line-at-requires-3 c).Start) (room _ w3 (fits4 c.args.head c.args.adders c.args.csd _ c.requires.1))
 
-pub overflow_cast-csd : goal.overflow_cast-csd
-overflow_cast-csd c =
-    let h = c.ranges.csd.fits in
-    record { sfits = omega arith }
-
 pub number_line-requires : goal.number_line-requires
 number_line-requires c =
     let w1 = wrote1 (goal.at.number_line-requires c).After-number_line-at in
     let w2 = wrote2 (goal.at.number_line-requires c).After-number_line-at-2 w1 in
     let w3 = wrote3 (goal.at.number_line-requires c).After-report-at w2 in
     let w4 = wrote4 (goal.at.number_line-requires c).After-number_line-at-3 w3 in
-    rw (csd_is (goal.at.number_line-requires c).Start) (room _ w4 (fits5 c.args.head c.args.adders c.args.csd _ c.requires.1))
+    rw (csd_is c) (room _ w4 (fits5 c.args.head c.args.adders c.args.csd _ c.requires.1))
 
 pub returns : goal.returns
 unfolding head_text
@@ -136,4 +131,4 @@ returns c =
     let w2 = wrote2 (goal.at.returns c).After-number_line-at-2 w1 in
     let w3 = wrote3 (goal.at.returns c).After-report-at w2 in
     let w4 = wrote4 (goal.at.returns c).After-number_line-at-3 w3 in
-    w4 ⨾ rw (csd_is (goal.at.returns c).Start) at c.number_line.ensures
+    w4 ⨾ rw (csd_is (goal.at.returns c).After-from-3) at c.number_line.ensures

@@ -1,13 +1,8 @@
-use mathlib.Core.Path.{◌≡◌}
-use Prim.Native.Nat.{◌-◌, ◌≤◌}
-use lib.ListN.{length, take}
+use lib.ListN.{take}
 use Rattle.meaning.specs.Forms.{lines_of, out_form}
 use Rattle.meaning.specs.Listing.{outs_from}
 use Rattle.writing.specs.Wrote.{Wrote}
 use Rattle.listing.proofs.lines.out_lines.Given as goal
 
 abbrev pub invariant-loop-k : goal.invariant-loop-k
-invariant-loop-k l = (l.k ≤ length l.ts) × (length l.out ≡ length l.initial.out) × Wrote l.initial.out l.from (lines_of out_form (take l.k (outs_from l.input l.values 1 l.ts))) l.out l.at
-
-abbrev pub decreases-loop-k : goal.decreases-loop-k
-decreases-loop-k l = length l.ts - l.k
+invariant-loop-k l = Wrote l.initial.out l.from (lines_of out_form (take l.k (outs_from l.input l.values 1 l.ts))) l.out l.at
