@@ -1,7 +1,7 @@
 -- The least value so far: how looking at more values composes, and what each step of the code looks at. Assumes nothing.
 use mathlib.Core.Path.{◌≡◌, refl, sym, ap, ap₂, ◌∙◌, subst, subst⁻¹}
 use mathlib.Core.Bool.{Bool, true, false, ◌||◌, or_assoc}
-use mathlib.Core.List.{List}
+use mathlib.Core.List.{List, [], ◌∷◌, ◌++◌}
 use mathlib.Core.Logic.{⊎_elim}
 use Prim.Native.Nat.{ℕ, zero, suc, ◌+◌, ◌-◌, ◌*◌, ◌/◌, ◌%◌, ◌^◌, ◌≤◌, ◌<◌}
 use native.Mathlib.Decide.{dec_le}
@@ -17,7 +17,9 @@ use Rattle.meaning.specs.Distance.{is_one_op}
 use Rattle.laws.proofs.Lists.Tests.{bool_ext, eqb_of_eq, either_of, of_left, of_right, T_of}
 use Rattle.search.specs.Sides.{does_hit, is_side_to, is_with, is_factor, is_twice}
 use Rattle.search.specs.Marks.{marked}
-use Rattle.search.proofs.Sides.{any_up, hit_outcome, outcome_hit, side_stop, side_suc, with_suc}
+use Rattle.search.specs.Walk.{pairs_from, is_among}
+use Rattle.search.proofs.Sides.{any_up, hit_outcome, outcome_hit, with_suc}
+use Rattle.search.proofs.Walk.{among_suc, side_is}
 use Rattle.search.specs.Least.{Seen, Lowers}
 
 -- ---- lowering
@@ -98,22 +100,18 @@ module _ (L : ℕ) (map : List ℕ) (low n : ℕ) {best : ℕ} where
 
 -- ---- the sides
 
-module _ (L u v : ℕ) (map : List ℕ) (low : ℕ) where
-  pub side_start : (best : ℕ) → Lowers map low (λ s. is_side_to L u v 0 s) best best
-  unfolding is_side_to
-  side_start best = lowers_none (λ s l p. p.test)
+module _ (L : ℕ) (map : List ℕ) (low : ℕ) where
+  pub among_start : (best : ℕ) → Lowers map low (λ s. is_among L [] s) best best
+  unfolding is_among
+  among_start best = lowers_none (λ s l p. p.test)
 
-  pub side_more : (l : ℕ) {a b c d : ℕ} (x y : ℕ) → x ≡ size u v 0 l 0 → y ≡ size u v 0 l 1
-      → Lowers map low (λ s. is_side_to L u v l s) a b → Lowers map low (λ s. does_hit L x s) b c → Lowers map low (λ s. does_hit L y s) c d
-      → Lowers map low (λ s. is_side_to L u v (l + 1) s) a d
-  side_more l x y e f p q r =
-      lowers_then (lowers_then p q (λ s. refl)) r
-      (λ s. ap₂ (λ (m n : ℕ). (is_side_to L u v l s || does_hit L m s) || does_hit L n s) e f ∙ side_suc L u v l s)
+  pub among_more : (ps : List (ℕ × ℕ)) (x y : ℕ) {a b c d : ℕ} → Lowers map low (λ s. is_among L ps s) a b
+      → Lowers map low (λ s. does_hit L x s) b c → Lowers map low (λ s. does_hit L y s) c d → Lowers map low (λ s. is_among L (ps ++ ((x, y) ∷ [])) s) a d
+  among_more ps x y p q r = lowers_then (lowers_then p q (λ s. refl)) r (λ s. among_suc L ps x y s)
 
-  -- no shift from l on gives anything
-  pub side_past : (l : ℕ) {a b : ℕ} → Odd L u → Odd L v → l ≤ L → u + 2 ^ L ≤ 2 ^ l * v
-      → Lowers map low (λ s. is_side_to L u v l s) a b → Lowers map low (λ s. is_side_to L u v (L + 1) s) a b
-  side_past l o p h q x = lowers_same x (λ s k. side_stop L u v l s o.0 p.1 h q)
+  pub among_all : (u v : ℕ) (ps : List (ℕ × ℕ)) {a b : ℕ} → Odd L u → Odd L v → ps ≡ pairs_from u v (u + 2 ^ L) 0 (L + 1)
+      → Lowers map low (λ s. is_among L ps s) a b → Lowers map low (λ s. is_side_to L u v (L + 1) s) a b
+  among_all u v ps o p e x = lowers_same x (λ s h. ap (λ qs. is_among L qs s) e ∙ side_is L u v s o p)
 
 -- ---- each value of a list
 

@@ -1,5 +1,6 @@
 -- The laws of the map.
 pub mod Sides
+pub mod Walk
 pub mod Serves
 pub mod Marks
 pub mod ReadyLaws

@@ -17,7 +17,9 @@ use Rattle.laws.proofs.Lists.Tests.{true_of, false_of}
 use Rattle.laws.proofs.Whole.Zeros.{zeros_left}
 use Rattle.search.specs.Sides.{does_hit, is_side_to, is_with}
 use Rattle.search.specs.Marks.{bit, mark_of, Holds, Adds, marked, Wide, State}
-use Rattle.search.proofs.Sides.{hit_outcome, outcome_hit, side_stop, side_suc, with_suc, one_self, reach_add}
+use Rattle.search.specs.Walk.{pairs_from, is_among}
+use Rattle.search.proofs.Sides.{hit_outcome, outcome_hit, with_suc, one_self, reach_add}
+use Rattle.search.proofs.Walk.{among_suc, side_is}
 
 -- ---- additions
 
@@ -133,23 +135,20 @@ module _ (L : ℕ) (ms new : List ℕ) (n : ℕ) where
 
 -- ---- the sides
 
-pub side_start : (L u v : ℕ) (ms : List ℕ) → Adds ms ms (λ c. is_side_to L u v 0 c)
-unfolding is_side_to
-side_start L u v ms = adds_none refl (λ k l t. t)
+pub among_start : (L : ℕ) (ms : List ℕ) → Adds ms ms (λ c. is_among L [] c)
+unfolding is_among
+among_start L ms = adds_none refl (λ k l t. t)
 
-pub side_more : (L u v l : ℕ) {a b c d : List ℕ} (x y : ℕ) → x ≡ size u v 0 l 0 → y ≡ size u v 0 l 1
-    → Adds a b (λ c. is_side_to L u v l c) → Adds b c (λ c. does_hit L x c) → Adds c d (λ c. does_hit L y c) → Adds a d (λ c. is_side_to L u v (l + 1) c)
-side_more L u v l x y e f p q r =
-    adds_then (adds_then p q (λ k. refl)) r
-    (λ k. ap₂ (λ (m n : ℕ). (is_side_to L u v l k || does_hit L m k) || does_hit L n k) e f ∙ side_suc L u v l k)
+pub among_more : (L : ℕ) (ps : List (ℕ × ℕ)) (x y : ℕ) {a b c d : List ℕ}
+    → Adds a b (λ c. is_among L ps c) → Adds b c (λ c. does_hit L x c) → Adds c d (λ c. does_hit L y c) → Adds a d (λ c. is_among L (ps ++ ((x, y) ∷ [])) c)
+among_more L ps x y p q r = adds_then (adds_then p q (λ k. refl)) r (λ k. among_suc L ps x y k)
 
--- no shift from l on gives anything
-pub side_past : (L u v l : ℕ) {a b : List ℕ} → Odd L u → Odd L v → l ≤ L → u + 2 ^ L ≤ 2 ^ l * v
-    → Adds a b (λ c. is_side_to L u v l c) → Adds a b (λ c. is_side_to L u v (L + 1) c)
-side_past L u v l {a} {b} o p h q x =
+pub among_all : (L u v : ℕ) (ps : List (ℕ × ℕ)) {a b : List ℕ} → Odd L u → Odd L v → ps ≡ pairs_from u v (u + 2 ^ L) 0 (L + 1)
+    → Adds a b (λ c. is_among L ps c) → Adds a b (λ c. is_side_to L u v (L + 1) c)
+among_all L u v ps {a} {b} o p e x =
     record {
       long = x.long;
-      marks = λ k i. x.marks k i ∙ ap (λ (t : Bool). mark_of t (get_or a k 0)) (side_stop L u v l (2 * k + 1) o.0 p.1 h q);
+      marks = λ k i. x.marks k i ∙ ap (λ (t : Bool). mark_of t (get_or a k 0)) (ap (λ qs. is_among L qs (2 * k + 1)) e ∙ side_is L u v (2 * k + 1) o p);
     }
 
 -- ---- each value of a list

@@ -239,7 +239,7 @@ side_suc L u v l c =
     ∙ sym (any_up (λ n. is_at L u v n c) 0 l)
     ∙ ap (λ (n : ℕ). is_side_to L u v n c) (sym (add-one l))
 
-any_snoc : (f : ℕ → Bool) (xs : List ℕ) (y : ℕ) → any f (xs ++ (y ∷ [])) ≡ (any f xs || f y)
+pub any_snoc : {A : Type 0} (f : A → Bool) (xs : List A) (y : A) → any f (xs ++ (y ∷ [])) ≡ (any f xs || f y)
 any_snoc f [] y = or-false (f y)
 any_snoc f (x ∷ xs) y = ap (λ (b : Bool). f x || b) (any_snoc f xs y) ∙ sym (or_assoc (f x) (any f xs) (f y))
 

@@ -2,7 +2,10 @@
 #![tactic(auto)]
 
 pub mod ready;
+mod results;
 pub mod serving;
+
+use crate::results::Results;
 
 // The bytes of both maps, and up to which limit the short one serves: 2^13 is 2 × 4096.
 pub const SHORT_MAP: usize = 4096;
@@ -32,21 +35,14 @@ fn mark(map: &mut [u8], limit: u32, n: u64)
     }
 }
 
-// All results of operations on u as it is and v shifted are marked. Both are odd and below 2^limit, so once v is shifted so far
-// that even the difference is not below 2^limit, no greater shift gives anything.
+// All results of operations on u as it is and v shifted are marked.
 fn side(map: &mut [u8], limit: u32, u: u32, v: u32)
     requires { Wide limit map.old × Odd limit u × Odd limit v }
     ensures { Adds map.old map.new (λ c. is_side_to limit u v (limit + 1) c) }
 {
-    let a = u as u64;
-    let far = a + arith::power(limit);
-    for l in 0..limit + 1 {
-        let w = arith::shifted(v, l);
-        if w >= far {
-            return;
-        }
-        mark(map, limit, a + w);
-        mark(map, limit, arith::difference(a, w));
+    for (sum, difference) in Results::new(limit, u, v) {
+        mark(map, limit, sum);
+        mark(map, limit, difference);
     }
 }
 

@@ -10,6 +10,8 @@ ghost use Rattle.search.specs.Marks.{Wide, State};
 ghost use Rattle.search.specs.Choices.{chosen_in};
 ghost use Rattle.search.specs.Least.{Lowers, Looking, LookingAll};
 
+use crate::results::Results;
+
 // The smallest value that serves, if one does, and how many candidates were tried.
 #[derive(Clone, Copy)]
 pub struct Trials {
@@ -46,21 +48,15 @@ fn look(map: &[u8], limit: u32, n: u64, low: u32, best: u32) -> u32
     lower(map, arith::odd_part(n), low, best)
 }
 
-// The same for all results of operations on u as it is and v shifted, up to the shift from which on nothing comes.
+// The same for all results of operations on u as it is and v shifted.
 fn look_side(map: &[u8], limit: u32, u: u32, v: u32, low: u32, best: u32) -> u32
     requires { Looking limit map.now u v best }
     ensures { Lowers map.now low (λ s. is_side_to limit u v (limit + 1) s) best result }
 {
-    let a = u as u64;
-    let far = a + arith::power(limit);
     let mut least = best;
-    for l in 0..limit + 1 {
-        let w = arith::shifted(v, l);
-        if w >= far {
-            return least;
-        }
-        least = look(map, limit, a + w, low, least);
-        least = look(map, limit, arith::difference(a, w), low, least);
+    for (sum, difference) in Results::new(limit, u, v) {
+        least = look(map, limit, sum, low, least);
+        least = look(map, limit, difference, low, least);
     }
     least
 }

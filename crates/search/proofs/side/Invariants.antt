@@ -1,6 +1,12 @@
-use Rattle.search.specs.Sides.{is_side_to}
+use mathlib.Core.Path.{◌≡◌}
+use mathlib.Core.List.{◌++◌}
+use Prim.Native.Nat.{◌+◌, ◌^◌}
+use Rattle.search.specs.Walk.{pairs_from, to_come, is_among}
 use Rattle.search.specs.Marks.{Adds}
 use Rattle.search.proofs.side.Given as goal
 
-abbrev pub invariant-loop-l : goal.invariant-loop-l
-invariant-loop-l l = Adds l.initial.map l.map (λ c. is_side_to l.limit l.u l.v l.l c)
+abbrev pub invariant-loop-sum : goal.invariant-loop-sum
+invariant-loop-sum l = record {
+  walk : l.yielded ++ to_come l.sum-iterator ≡ pairs_from l.u l.v (l.u + 2 ^ l.limit) 0 (l.limit + 1);
+  adds : Adds l.initial.map l.map (λ c. is_among l.limit l.yielded c)
+}

@@ -1,21 +1,30 @@
--- `look_side` meets its contract. The loop's invariant: the results with shifts below l are looked at. Assumes nothing.
-use Prim.Native.Nat.{◌+◌}
-use native.Mathlib.Omega.{arith}
-use Rattle.search.proofs.Least.{side_start, side_more, side_past}
+-- `look_side` meets its contract. The loop's invariant: the results that came are looked at. Assumes nothing.
+use mathlib.Core.Path.{ap, ◌∙◌}
+use Rattle.search.specs.Walk.{to_come}
+use Rattle.search.proofs.Walk.{came_more, came_all}
+use Rattle.search.proofs.Least.{among_start, among_more, among_all}
 use Rattle.search.proofs.serving.look_side.Goals as goal
 
-pub loop-l-init : goal.loop-l-init
-loop-l-init c = let a = c.args in side_start a.limit a.u a.v a.map.now a.low a.best
-
-pub returns-then-w-far : goal.returns-then-w-far
-returns-then-w-far c =
+pub loop-sum-init : goal.loop-sum-init
+loop-sum-init c =
     let a = c.args in
-    side_past a.limit a.u a.v a.map.now a.low c.loop-l.l c.requires.first c.requires.second (omega arith)
-    (omega (arith, c.if-w-far.true, c.shifted-w.ensures, c.power.ensures)) c.loop-l.invariant
+    record {
+      walk = ap to_come c.into_iter-sum-iterator.ensures.into_iter_gives ∙ c.new-sum-items.ensures;
+      lowers = among_start a.limit a.map.now a.low a.best;
+    }
 
-pub loop-l-preserved : goal.loop-l-preserved
-loop-l-preserved c =
+pub loop-sum-preserved : goal.loop-sum-preserved
+loop-sum-preserved c =
     let a = c.args in
-    side_more a.limit a.u a.v a.map.now a.low c.loop-l.l (a.u + c.shifted-w.result) c.difference.result
-    (omega (arith, c.shifted-w.ensures)) (omega (arith, c.shifted-w.ensures, c.difference.ensures))
-    c.loop-l.invariant c.look-least.ensures c.look-least-in-loop-l.ensures
+    let l = c.loop-sum in
+    record {
+      walk = came_more l.yielded (to_come l.sum-iterator) (to_come c.next.new.self) _ _ l.invariant.walk c.in-Some.ensures.steps;
+      lowers = among_more a.limit a.map.now a.low l.yielded _ _ l.invariant.lowers c.look-least.ensures c.look-least-in-loop-sum.ensures;
+    }
+
+pub returns : goal.returns
+returns c =
+    let a = c.args in
+    let l = c.loop-sum in
+    among_all a.limit a.map.now a.low a.u a.v l.yielded c.requires.first c.requires.second
+    (came_all l.yielded _ _ l.invariant.walk c.in-None.ensures.steps.0) l.invariant.lowers
