@@ -12,7 +12,7 @@ use lib.Dec.{T, eqb, eqb→eq, eqb_refl}
 use lib.ListN.{length, get_or, take}
 use lib.Pow.{pow_mono}
 use Rattle.meaning.specs.Basics.{zeros}
-use Rattle.meaning.specs.Operation.{Odd, size}
+use Rattle.meaning.specs.Operation.{Odd}
 use Rattle.meaning.specs.Distance.{is_one_op}
 use Rattle.laws.proofs.Lists.Tests.{bool_ext, eqb_of_eq, either_of, of_left, of_right, T_of}
 use Rattle.search.specs.Sides.{does_hit, is_side_to, is_with, is_factor, is_twice}

@@ -1,5 +1,5 @@
 -- Marks in a map: how additions compose, and what each step of the code adds. Assumes nothing.
-use mathlib.Core.Path.{◌≡◌, refl, sym, ap, ap₂, ◌∙◌, subst}
+use mathlib.Core.Path.{◌≡◌, refl, sym, ap, ◌∙◌, subst}
 use mathlib.Core.Bool.{Bool, true, false, ◌||◌}
 use mathlib.Core.List.{List, [], ◌∷◌, ◌++◌}
 use Prim.Native.Nat.{ℕ, ◌+◌, ◌*◌, ◌/◌, ◌%◌, ◌^◌, ◌≤◌, ◌<◌}
@@ -11,7 +11,7 @@ use lib.ListN.{length, get_or, set, take, replicate, length-set, length-replicat
 use lib.Pow.{pow_mono}
 use lib.Seq.{get_or-set_same, get_or-set_other, take-suc-set, ext_get_or}
 use Rattle.meaning.specs.Basics.{zeros}
-use Rattle.meaning.specs.Operation.{Odd, size}
+use Rattle.meaning.specs.Operation.{Odd}
 use Rattle.meaning.specs.Distance.{is_one_op, does_reach}
 use Rattle.laws.proofs.Lists.Tests.{true_of, false_of}
 use Rattle.laws.proofs.Whole.Zeros.{zeros_left}

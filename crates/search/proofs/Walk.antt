@@ -9,7 +9,7 @@ use borrow.Author.Tests.{le-leb, lt-leb}
 use lib.Dec.{leb, leb→le}
 use Rattle.meaning.specs.Basics.{difference}
 use Rattle.laws.proofs.Lists.Tests.{T_of}
-use Rattle.meaning.specs.Operation.{Odd, size}
+use Rattle.meaning.specs.Operation.{Odd}
 use Rattle.search.specs.Sides.{does_hit, is_side_to}
 use Rattle.search.specs.Walk.{pairs_from, is_among}
 use Rattle.search.proofs.Sides.{side_stop, side_suc, any_snoc}

@@ -8,5 +8,5 @@ use Rattle.search.proofs.serving.look_side.Given as goal
 abbrev pub invariant-loop-sum : goal.invariant-loop-sum
 invariant-loop-sum l = record {
   walk : l.yielded ++ to_come l.sum-iterator ≡ pairs_from l.u l.v (l.u + 2 ^ l.limit) 0 (l.limit + 1);
-  lowers : Lowers l.map l.low (λ s. is_among l.limit l.yielded s) l.best l.least
+  lowers : Lowers l.map l.low (λ s. is_among l.limit l.yielded s) l.best l.least;
 }
