@@ -83,6 +83,7 @@ fn look_each(map: &[u8], limit: u32, ready: &[u32], c: u32, low: u32, best: u32)
 }
 
 // The same for c / f, if f divides c.
+#[tactic(auto, using(crate::proofs::Least::factor_odd, crate::proofs::Least::factor_none, crate::proofs::Least::factor_one))]
 fn look_factor(map: &[u8], c: u64, f: u64, low: u32, best: u32) -> u32
     requires { (c % 2 ≡ 1) × (0 < f) × (best ≤ 2 * length map.now) }
     ensures { Lowers map.now low (λ s. eqb (s * f) c) best result }
