@@ -2,12 +2,10 @@
 use Rattle.std.specs.Prelude.{◌≡◌, false, Option, Some, None, option_to_list, ℕ, ◌*◌, ◌≤◌, length}
 use mathlib.Core.List.{List, [], ◌++◌, Memᴰ}
 use Rattle.meaning.specs.declared.Row.{Row}
-use Rattle.meaning.specs.Limits.{most_targets, most_rows}
+use Rattle.meaning.specs.Limits.{most_rows}
 use Rattle.meaning.specs.Graph.{row_length}
 use Rattle.meaning.specs.Distance.{does_reach}
 use Rattle.meaning.specs.Generator.{row_for, rule_b, added, turns}
-use Rattle.constants.specs.declared.wanted.Wanted.{Wanted}
-use Rattle.constants.specs.Held.{kept}
 use Rattle.search.specs.declared.ready.Ready.{Ready}
 use Rattle.search.specs.Held.{listed}
 use Rattle.meaning.specs.Operation.{Odd}
@@ -43,11 +41,10 @@ pub record Pickable (L : ℕ) (map : List ℕ) (set : Ready) (cs : List ℕ) : T
   pub far : NoneNear L (listed set) cs
 
 -- a turn may begin: there is room for its rows, and its constants can be served
-pub record Turning (L : ℕ) (map out : List ℕ) (set : Ready) (w : Wanted) : Type 0 where
-  pub room : Open L set map out (length (added L (drawn_rows set out) (kept w)))
+pub record Turning (L : ℕ) (map out : List ℕ) (set : Ready) (cs : List ℕ) : Type 0 where
+  pub room : Open L set map out (length (added L (drawn_rows set out) cs))
   pub limit : L ≤ long_limit
-  pub few : w.count ≤ most_targets
-  pub servable : AllServable L (kept w)
+  pub servable : AllServable L cs
 
 -- ---- all turns
 

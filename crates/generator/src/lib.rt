@@ -7,7 +7,6 @@ mod remaining;
 mod rule;
 
 ghost use Rattle.std.specs.Prelude.{◌≡◌, [], ◌+◌, ◌*◌, ◌≤◌, length, Ok};
-ghost use Rattle.constants.specs.Held.{kept};
 ghost use Rattle.meaning.specs.Basics.{over};
 ghost use Rattle.meaning.specs.Limits.{limit as limits_limit, most_targets, most_rows};
 ghost use Rattle.meaning.specs.Graph.{row_length, flat};
@@ -17,7 +16,7 @@ ghost use Rattle.search.specs.Held.{Started};
 ghost use Rattle.search.specs.Marks.{State};
 ghost use Rattle.generator.specs.Rule.{turned, Drawable};
 
-use constants::wanted::Wanted;
+use constants::wanted::wanted_of;
 use meaning::{FULL_LENGTH, Refusal};
 use search::ready::Ready;
 use search::{LONG_MAP, SHORT_MAP};
@@ -33,14 +32,14 @@ fn start(map: &mut [u8], limit: u32) -> Ready
 }
 
 // As many turns as there are constants.
-fn draw(map: &mut [u8], limit: u32, out: &mut [u32], w: Wanted) -> Ready
-    requires { Drawable limit map.old out.old (kept w) × (w.count ≤ most_targets) }
-    ensures { (result.count ≡ length (turned limit (kept w)) + 1) × (out.new ≡ over (flat (turned limit (kept w))) out.old) }
+fn draw(map: &mut [u8], limit: u32, out: &mut [u32], wanted: &[u32]) -> Ready
+    requires { Drawable limit map.old out.old wanted.now × (length wanted.now ≤ most_targets) }
+    ensures { (result.count ≡ length (turned limit wanted.now) + 1) × (out.new ≡ over (flat (turned limit wanted.now)) out.old) }
 {
     let mut set = start(map, limit);
-    for _ in 0..w.count {
-        let left = remaining::left(set, w);
-        set = rule::turn(map, limit, set, out, left);
+    for _ in 0..wanted.len() {
+        let left = remaining::left(set, wanted);
+        set = rule::turn(map, limit, set, out, &left);
     }
     set
 }
@@ -51,7 +50,7 @@ fn rows_by(map: &mut [u8], b: u32, ts: &[i32], out: &mut [u32]) -> u32
     ensures { Generates b ts.now (Ok result) out.old out.new }
 {
     let limit = arith::limit(b);
-    let set = draw(map, limit, out, constants::wanted::wanted_of(ts));
+    let set = draw(map, limit, out, &wanted_of(ts));
     (set.count - 1) as u32
 }
 

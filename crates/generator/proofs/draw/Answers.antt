@@ -1,27 +1,18 @@
 -- `draw` meets its contract: turn after turn, as many as there are constants. Assumes nothing.
-use mathlib.Core.Path.{◌≡◌, subst, subst⁻¹}
+use mathlib.Core.Path.{◌≡◌, ◌∙◌, subst, subst⁻¹}
 use mathlib.Core.List.{List}
 use Prim.Native.Nat.{ℕ}
 use native.Mathlib.Omega.{arith}
-use borrow.Author.Rules.{rules}
-use lib.ListN.{length, length-take}
-use lib.Seq.{length-take-le}
+use lib.ListN.{length}
 use Rattle.meaning.specs.Limits.{most_rows}
 use Rattle.meaning.specs.Generator.{remaining, added}
 use Rattle.laws.proofs.Generator.Remaining.{remaining_in}
-use Rattle.constants.specs.Held.{kept}
-use Rattle.constants.proofs.Insertion.{held_list, held_count}
-use Rattle.generator.proofs.RemainingLaws.{few_left}
 use Rattle.search.specs.Held.{listed}
 use Rattle.generator.specs.Growth.{drawn_rows, Open, Grown}
 use Rattle.generator.specs.Rule.{AllServable}
 use Rattle.generator.proofs.Turns.{started_open, turned_start, turned_open, turned_more, turned_end, from_front}
 use Rattle.generator.proofs.draw.Goals as goal
 use Rattle.generator.proofs.draw.Goals.{After-start-set, In-loop, Start}
-
--- as many constants as are counted
-its_length : (c : Start) → length (kept c.args.w) ≡ c.args.w.count
-its_length c = let p : length c.args.w.values ≡ 16 = search rules in length-take-le c.args.w.count c.args.w.values (omega (arith, c.requires.1))
 
 opened : (c : After-start-set) → let a = c.args in Open a.limit c.start-set.result c.start-set.new.map a.out.now most_rows
 opened c = started_open c.start-set.ensures.0 c.start-set.ensures.1 c.requires.0.words
@@ -37,28 +28,27 @@ left-left-requires c = c.requires.1
 
 -- what is left is servable, and the next turn has room
 next_open : (c : In-loop) → let a = c.args in
-    Open a.limit c.loop.set c.loop.map c.loop.out (length (added a.limit (drawn_rows c.loop.set c.loop.out) (remaining (listed c.loop.set) (kept a.w))))
+    Open a.limit c.loop.set c.loop.map c.loop.out (length (added a.limit (drawn_rows c.loop.set c.loop.out) (remaining (listed c.loop.set) a.wanted.now)))
 next_open c =
-    turned_open c.start-set.ensures.0 (opened (goal.at.left-left-requires c).After-start-set) c.loop.invariant (omega (arith, its_length (goal.at.left-left-requires c).Start, c.loop-test.true)) c.requires.0.few
+    turned_open c.start-set.ensures.0 (opened (goal.at.left-left-requires c).After-start-set) c.loop.invariant (omega arith) c.requires.0.few
 
 pub turn-set-requires : goal.turn-set-requires
 turn-set-requires c =
-    let e = held_list _ _ c.left-left.ensures in
+    let e : c.deref.result.now ≡ remaining (listed c.loop.set) c.args.wanted.now = c.deref.ensures.0 ∙ c.left-left.ensures in
     record {
       room =
           subst⁻¹ (λ (cs : List ℕ). Open c.args.limit c.loop.set c.loop.map c.loop.out (length (added c.args.limit (drawn_rows c.loop.set c.loop.out) cs))) e
           (next_open (goal.at.turn-set-requires c).In-loop);
       limit = c.requires.0.most;
-      few = omega (arith, held_count _ _ c.left-left.ensures, few_left (listed c.loop.set) (kept c.args.w), length-take c.args.w.count c.args.w.values, c.requires.1);
       servable = subst⁻¹ (AllServable c.args.limit) e (λ k i. c.requires.0.servable k (remaining_in _ _ k i).0);
     }
 
 pub loop-preserved : goal.loop-preserved
 loop-preserved c =
     let g = goal.at.loop-preserved c in
-    turned_more c.start-set.ensures.0 (opened g.After-start-set) c.loop.invariant (omega (arith, its_length g.Start, c.loop-test.true)) c.requires.0.few
-    (subst (λ (cs : List ℕ). Grown c.args.limit c.loop.set (added c.args.limit (drawn_rows c.loop.set c.loop.out) cs) c.turn-set.result c.turn-set.new.map c.loop.out c.turn-set.new.out) (held_list _ _ c.left-left.ensures) c.turn-set.ensures)
+    turned_more c.start-set.ensures.0 (opened g.After-start-set) c.loop.invariant (omega arith) c.requires.0.few
+    (subst (λ (cs : List ℕ). Grown c.args.limit c.loop.set (added c.args.limit (drawn_rows c.loop.set c.loop.out) cs) c.turn-set.result c.turn-set.new.map c.loop.out c.turn-set.new.out) (c.deref.ensures.0 ∙ c.left-left.ensures) c.turn-set.ensures)
 
 pub returns : goal.returns
 returns c =
-    from_front c.start-set.ensures.0 (turned_end c.start-set.ensures.0 (opened (goal.at.returns c).After-start-set) c.loop.invariant (omega (arith, its_length (goal.at.returns c).Start, c.loop-test.false)))
+    from_front c.start-set.ensures.0 (turned_end c.start-set.ensures.0 (opened (goal.at.returns c).After-start-set) c.loop.invariant (omega arith))

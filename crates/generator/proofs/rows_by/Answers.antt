@@ -3,43 +3,38 @@ use mathlib.Core.Path.{◌≡◌, ap, ◌∙◌, subst⁻¹}
 use mathlib.Core.List.{List}
 use Prim.Native.Nat.{ℕ, ◌-◌, ◌≤◌}
 use native.Mathlib.Omega.{arith}
+use lib.Seq.{take_all}
 use lib.ListN.{length}
 use Rattle.meaning.specs.Constants.{wanted}
-use Rattle.meaning.specs.Limits.{limit, most_rows}
+use Rattle.meaning.specs.Limits.{most_targets, limit, most_rows}
 use Rattle.meaning.specs.Graph.{flat}
 use Rattle.meaning.specs.Basics.{over}
 use Rattle.meaning.specs.declared.Row.{Row}
 use Rattle.meaning.specs.Generator.{generated}
-use Rattle.laws.proofs.Refusals.Checked.{Admitted, admitted_of}
+use Rattle.laws.proofs.Refusals.Checked.{admitted_of}
 use Rattle.laws.proofs.Constants.Wanted.{wanted_length}
 use Rattle.laws.proofs.Generator.Generated.{few_rows_lem, drawn_accepts}
-use Rattle.constants.specs.Held.{kept, wanted_held}
-use Rattle.constants.proofs.Insertion.{held_list, held_count, held_all}
 use Rattle.generator.specs.Rule.{AllServable, turned, Drawable}
 use Rattle.generator.proofs.Answers.{all_servable, told_rows, its_turns}
 use Rattle.generator.proofs.rows_by.Goals as goal
-use Rattle.generator.proofs.rows_by.Goals.{After-wanted_of, Start}
-
-good : (c : Start) → Admitted c.args.b c.args.ts.now
-good c = admitted_of _ _ c.requires.1
+use Rattle.generator.proofs.rows_by.Goals.{After-deref}
 
 -- the wanted set handed to `draw`: no target is left out
-holds : (c : After-wanted_of) → c.wanted_of.result ≡ wanted_held (wanted c.args.ts.now)
-holds c = held_all _ _ (good (goal.at.draw-set-requires c).Start).list.1 c.wanted_of.ensures
+its_list : (c : After-deref) → c.deref.result.now ≡ wanted c.args.ts.now
+its_list c =
+    let g = admitted_of c.args.b c.args.ts.now c.requires.1 in
+    c.deref.ensures.0 ∙ c.wanted_of.ensures ∙ ap wanted (take_all most_targets c.args.ts.now g.list.1)
 
-its_list : (c : After-wanted_of) → kept c.wanted_of.result ≡ wanted c.args.ts.now
-its_list c = held_list _ _ (holds c)
-
-its_rows : (c : After-wanted_of) → let a = c.args in turned c.limit-limit.result (kept c.wanted_of.result) ≡ generated a.b a.ts.now
-its_rows c = ap (λ (L : ℕ). turned L (kept c.wanted_of.result)) c.limit-limit.ensures ∙ its_turns _ _ _ (its_list c)
+its_rows : (c : After-deref) → let a = c.args in turned c.limit-limit.result c.deref.result.now ≡ generated a.b a.ts.now
+its_rows c = ap (λ (L : ℕ). turned L c.deref.result.now) c.limit-limit.ensures ∙ its_turns _ _ _ (its_list c)
 
 pub limit-limit-requires : goal.limit-limit-requires
-limit-limit-requires c = (good (goal.at.limit-limit-requires c).Start).bits.1
+limit-limit-requires c = (admitted_of c.args.b c.args.ts.now c.requires.1).bits.1
 
 -- the turns may begin, under the limit of b
-ready_for : (c : After-wanted_of) → let a = c.args in Drawable (limit a.b) a.map.now a.out.now (kept c.wanted_of.result)
+ready_for : (c : After-deref) → let a = c.args in Drawable (limit a.b) a.map.now a.out.now c.deref.result.now
 ready_for c =
-    let g = good (goal.at.draw-set-requires c).Start in
+    let g = admitted_of c.args.b c.args.ts.now c.requires.1 in
     let h = g.bits in
     record {
       least = omega arith;
@@ -52,20 +47,22 @@ ready_for c =
 
 pub draw-set-requires : goal.draw-set-requires
 draw-set-requires c =
-    let a = c.args in (
-      subst⁻¹ (λ (L : ℕ). Drawable L a.map.now a.out.now (kept c.wanted_of.result)) c.limit-limit.ensures (ready_for c),
-      omega (arith, held_count _ _ (holds c), wanted_length a.ts.now, (good (goal.at.draw-set-requires c).Start).list),
+    let a = c.args in
+    let g = admitted_of a.b a.ts.now c.requires.1 in (
+      subst⁻¹ (λ (L : ℕ). Drawable L a.map.now a.out.now c.deref.result.now) c.limit-limit.ensures (ready_for c),
+      omega (arith, ap length (its_list c), wanted_length a.ts.now, g.list),
     )
 
 pub overflow_cast-result : goal.overflow_cast-result
 overflow_cast-result c =
-    omega (arith, c.draw-set.ensures.0, ap length (its_rows (goal.at.overflow_cast-result c).After-wanted_of), few_rows_lem _ _ c.requires.1)
+    omega (arith, c.draw-set.ensures.0, ap length (its_rows (goal.at.overflow_cast-result c).After-deref), few_rows_lem _ _ c.requires.1)
 
 pub returns : goal.returns
 returns c =
     let a = c.args in
+    let rows = its_rows (goal.at.returns c).After-deref in
     let done =
     told_rows a.b a.ts.now (length a.out.now) (c.draw-set.result.count - 1) _ _ (drawn_accepts _ _ _ c.requires.1 c.requires.2)
-    (omega (arith, c.draw-set.ensures.0, ap length (its_rows (goal.at.returns c).After-wanted_of)))
-    (c.draw-set.ensures.1 ∙ ap (λ (xs : List Row). over (flat xs) a.out.now) (its_rows (goal.at.returns c).After-wanted_of)) in
+    (omega (arith, c.draw-set.ensures.0, ap length rows))
+    (c.draw-set.ensures.1 ∙ ap (λ (xs : List Row). over (flat xs) a.out.now) rows) in
     record { answers = done.answers; writes = done.writes }

@@ -8,4 +8,4 @@ use Rattle.search.specs.Held.{listed}
 use Rattle.generator.proofs.rule.pick.Given as goal
 
 abbrev pub invariant-loop-c : goal.invariant-loop-c
-invariant-loop-c l = (before : List Row) → ready before ≡ listed l.set → rule_b l.limit before l.cs ≡ rule_b l.limit before (drop l.c-index l.cs)
+invariant-loop-c l = (before : List Row) → ready before ≡ listed l.set → rule_b l.limit before l.wanted ≡ rule_b l.limit before (drop l.c-index l.wanted)

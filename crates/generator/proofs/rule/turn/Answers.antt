@@ -1,16 +1,17 @@
 -- `turn` meets its contract: step A where the map has a constant, else step B where one has a choice, else step C for the first. Assumes nothing.
-use mathlib.Core.Path.{◌≡◌, sym, ap, ◌∙◌, subst, subst⁻¹}
-use mathlib.Core.List.{List, ◌++◌}
+use mathlib.Core.Bool.{true, false}
+use borrow.Author.Tests.{eqb-true}
+use lib.Dec.{eqb}
+use mathlib.Core.Path.{◌≡◌, refl, sym, ap, ◌∙◌, subst, subst⁻¹}
+use mathlib.Core.List.{List, [], ◌∷◌, ◌++◌}
 use Rattle.std.specs.Prelude.{Option, None, option_to_list}
-use Prim.Native.Nat.{ℕ}
+use Prim.Native.Nat.{ℕ, ◌<◌}
 use native.Mathlib.Omega.{arith}
-use borrow.Author.Rules.{rules}
 use lib.ListN.{length, get_or}
 use Rattle.meaning.specs.declared.Row.{Row}
 use Rattle.meaning.specs.Digits.{prefixes}
 use Rattle.meaning.specs.Generator.{row_for, rule_a, rule_c, added}
-use Rattle.constants.specs.Held.{kept}
-use Rattle.constants.proofs.Kept.{kept_at, kept_inside, kept_in, kept_nothing}
+use Rattle.laws.proofs.Lists.Index.{get_or_in}
 use Rattle.search.specs.Held.{listed}
 use Rattle.generator.specs.Growth.{drawn_rows, Open, Grown}
 use Rattle.generator.proofs.DraftLaws.{grown_none, grown_then, drawn_more, open_on, open_less}
@@ -20,22 +21,22 @@ use Rattle.generator.proofs.RuleLaws.{Nearest, near_at, near_nothing, added_none
 use Rattle.generator.proofs.rule.turn.Goals as goal
 use Rattle.generator.proofs.rule.turn.Goals.{In-Some, In-Some-pick, In_default, In_default-pick}
 
-nearest_is : (c : In-Some) → Nearest c.args.limit (drawn_rows c.args.set c.args.out.now) (kept c.args.w) c.in-Some.c
+nearest_is : (c : In-Some) → Nearest c.args.limit (drawn_rows c.args.set c.args.out.now) c.args.wanted.now c.in-Some.c
 nearest_is c =
     near_at _ _ _ _ c.requires.room.state _ c.requires.room.same _ c.requires.servable _ (sym c.nearest.ensures ∙ c.in-Some.is)
 
 added_by_a : (c : In-Some) →
-    added c.args.limit (drawn_rows c.args.set c.args.out.now) (kept c.args.w) ≡ option_to_list (row_for c.args.limit (drawn_rows c.args.set c.args.out.now) c.in-Some.c)
+    added c.args.limit (drawn_rows c.args.set c.args.out.now) c.args.wanted.now ≡ option_to_list (row_for c.args.limit (drawn_rows c.args.set c.args.out.now) c.in-Some.c)
 added_by_a c = added_a _ _ _ _ (nearest_is c).rows
 
 none_near : (c : In_default) →
-    (rule_a c.args.limit (drawn_rows c.args.set c.args.out.now) (kept c.args.w) ≡ None) × NoneNear c.args.limit (listed c.args.set) (kept c.args.w)
+    (rule_a c.args.limit (drawn_rows c.args.set c.args.out.now) c.args.wanted.now ≡ None) × NoneNear c.args.limit (listed c.args.set) c.args.wanted.now
 none_near c =
     near_nothing _ _ _ _ c.requires.room.state _ c.requires.room.same _ c.requires.servable (sym c.nearest.ensures ∙ c.in_default.is)
 
-picked_is : (c : In-Some-pick) → Serves c.args.limit (drawn_rows c.args.set c.args.out.now) (kept c.args.w) c.in-Some-pick.x.c c.in-Some-pick.x.s
+picked_is : (c : In-Some-pick) → Serves c.args.limit (drawn_rows c.args.set c.args.out.now) c.args.wanted.now c.in-Some-pick.x.c c.in-Some-pick.x.s
 picked_is c =
-    subst (λ (r : Option Chosen). Picked c.args.limit (drawn_rows c.args.set c.args.out.now) (kept c.args.w) r) c.in-Some-pick.is (c.pick.ensures (drawn_rows c.args.set c.args.out.now) (sym c.requires.room.same))
+    subst (λ (r : Option Chosen). Picked c.args.limit (drawn_rows c.args.set c.args.out.now) c.args.wanted.now r) c.in-Some-pick.is (c.pick.ensures (drawn_rows c.args.set c.args.out.now) (sym c.requires.room.same))
 
 -- the row of s, and that of the constant after it
 abbrev first_row : In-Some-pick → List Row
@@ -44,34 +45,40 @@ first_row c = option_to_list (row_for c.args.limit (drawn_rows c.args.set c.args
 abbrev second_row : In-Some-pick → List Row
 second_row c = option_to_list (row_for c.args.limit (drawn_rows c.args.set c.args.out.now ++ first_row c) c.in-Some-pick.x.c)
 
-added_by_b : (c : In-Some-pick) → rule_a c.args.limit (drawn_rows c.args.set c.args.out.now) (kept c.args.w) ≡ None
-    → added c.args.limit (drawn_rows c.args.set c.args.out.now) (kept c.args.w) ≡ first_row c ++ second_row c
+added_by_b : (c : In-Some-pick) → rule_a c.args.limit (drawn_rows c.args.set c.args.out.now) c.args.wanted.now ≡ None
+    → added c.args.limit (drawn_rows c.args.set c.args.out.now) c.args.wanted.now ≡ first_row c ++ second_row c
 added_by_b c n = added_b _ _ _ _ n (picked_is c).rows
 
-two : (c : In-Some-pick) → rule_a c.args.limit (drawn_rows c.args.set c.args.out.now) (kept c.args.w) ≡ None
-    → length (added c.args.limit (drawn_rows c.args.set c.args.out.now) (kept c.args.w)) ≡ 2
+two : (c : In-Some-pick) → rule_a c.args.limit (drawn_rows c.args.set c.args.out.now) c.args.wanted.now ≡ None
+    → length (added c.args.limit (drawn_rows c.args.set c.args.out.now) c.args.wanted.now) ≡ 2
 two c n = added_two _ _ _ _ _ n (picked_is c)
 
-added_by_c : (c : In_default-pick) → rule_a c.args.limit (drawn_rows c.args.set c.args.out.now) (kept c.args.w) ≡ None
-    → added c.args.limit (drawn_rows c.args.set c.args.out.now) (kept c.args.w) ≡ rule_c (drawn_rows c.args.set c.args.out.now) (prefixes (get_or c.args.w.values 0 0))
+-- as the test for an empty list tells it
+is_none : (xs : List ℕ) → eqb (length xs) 0 ≡ true → xs ≡ []
+is_none [] e = refl
+is_none (x ∷ xs) e = let h = eqb-true (length (x ∷ xs)) 0 e in absurd (omega arith)
+
+is_some : (xs : List ℕ) → eqb (length xs) 0 ≡ false → 0 < length xs
+is_some [] e = absurd cc
+is_some (x ∷ xs) e = omega arith
+
+some_wanted : (c : In_default-pick) → 0 < length c.args.wanted.now
+some_wanted c = is_some _ (sym c.is_empty.ensures ∙ c.if-is_empty.false)
+
+added_by_c : (c : In_default-pick) → rule_a c.args.limit (drawn_rows c.args.set c.args.out.now) c.args.wanted.now ≡ None
+    → added c.args.limit (drawn_rows c.args.set c.args.out.now) c.args.wanted.now ≡ rule_c (drawn_rows c.args.set c.args.out.now) (prefixes (get_or c.args.wanted.now 0 0))
 added_by_c c n =
     let a = c.args in
-    let some = c.if-w-eq0.false in
-    let p : length a.w.values ≡ 16 = search rules in
-    added_c _ _ _ (kept_inside a.w 0 p c.requires.few (omega arith)) n
-    (subst (λ (r : Option Chosen). Picked a.limit (drawn_rows c.args.set c.args.out.now) (kept a.w) r) c.in_default-pick.is (c.pick.ensures (drawn_rows c.args.set c.args.out.now) (sym c.requires.room.same)))
-    ∙ ap (λ (k : ℕ). rule_c (drawn_rows c.args.set c.args.out.now) (prefixes k)) (kept_at a.w 0 (omega arith))
+    added_c _ _ _ (some_wanted c) n
+    (subst (λ (r : Option Chosen). Picked a.limit (drawn_rows c.args.set c.args.out.now) a.wanted.now r) c.in_default-pick.is (c.pick.ensures (drawn_rows c.args.set c.args.out.now) (sym c.requires.room.same)))
 
 -- ---- the needs
-pub returns-then-w-eq0 : goal.returns-then-w-eq0
-returns-then-w-eq0 c =
+pub returns-then-is_empty : goal.returns-then-is_empty
+returns-then-is_empty c =
     let a = c.args in
+    let e = is_none a.wanted.now (sym c.is_empty.ensures ∙ c.if-is_empty.true) in
     subst⁻¹ (λ (xs : List Row). Grown a.limit a.set xs a.set a.map.now a.out.now a.out.now)
-    (ap (added a.limit (drawn_rows c.args.set c.args.out.now)) (kept_nothing a.w c.if-w-eq0.true) ∙ added_none a.limit (drawn_rows c.args.set c.args.out.now)) (grown_none _ c.requires.room)
-
-pub nearest-requires : goal.nearest-requires
-nearest-requires c =
-    c.requires.few
+    (ap (added a.limit (drawn_rows a.set a.out.now)) e ∙ added_none a.limit (drawn_rows a.set a.out.now)) (grown_none _ c.requires.room)
 
 pub add_first-requires : goal.add_first-requires
 add_first-requires c =
@@ -85,7 +92,7 @@ returns-in-Some c =
 
 pub pick-requires : goal.pick-requires
 pick-requires c =
-    (record { state = c.requires.room.state; limit = c.requires.limit; servable = c.requires.servable; far = (none_near c).1 }, c.requires.few)
+    record { state = c.requires.room.state; limit = c.requires.limit; servable = c.requires.servable; far = (none_near c).1 }
 
 pub add_first-more-requires : goal.add_first-more-requires
 add_first-more-requires c =
@@ -111,10 +118,9 @@ returns-in-Some-pick c =
 pub add_prefixes-requires : goal.add_prefixes-requires
 add_prefixes-requires c =
     let a = c.args in
-    let some = c.if-w-eq0.false in
-    let p : length a.w.values ≡ 16 = search rules in (
-      subst (λ (xs : List Row). Open a.limit a.set a.map.now a.out.now (length xs)) (added_by_c (goal.at.add_prefixes-requires c).In_default-pick (none_near (goal.at.add_prefixes-requires c).In_default).0) c.requires.room,
-      c.requires.servable _ (kept_in a.w 0 p c.requires.few (omega arith)),
+    let at = goal.at.add_prefixes-requires c in (
+      subst (λ (xs : List Row). Open a.limit a.set a.map.now a.out.now (length xs)) (added_by_c at.In_default-pick (none_near at.In_default).0) c.requires.room,
+      c.requires.servable _ (get_or_in a.wanted.now 0 0 (some_wanted at.In_default-pick)),
     )
 
 pub returns : goal.returns
