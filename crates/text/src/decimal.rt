@@ -56,6 +56,7 @@ fn unsigned(s: &[u8], p: usize, negative: bool) -> Option<(i32, usize)>
     if !plain(digits) {
         return None;
     }
+    // More digits are out of range.
     if count > 10 {
         return None;
     }

@@ -18,6 +18,7 @@ pub fn line_at(s: &[u8], from: usize, form: &[u8]) -> Option<(ArrayVec<i32, MOST
     for &c in form {
         if c == b'#' {
             let (z, next) = decimal::number(s, at)?;
+            // One that has no room is let go.
             let _ = numbers.try_push(z);
             at = next;
         } else if is(s, at, c) {

@@ -24,6 +24,7 @@ fn decimal(out: &mut [u8], at: usize, n: u64) -> usize
     requires { at + length (unsigned_text n) ≤ length out.old }
     ensures { Wrote out.old at (unsigned_text n) out.new result }
 {
+    // The kit's `io` writes into a slice and hands the count back.
     let mut text = [0u8; 20];
     let k = io::decimal(n, &mut text);
     put(out, at, &text[..k])
