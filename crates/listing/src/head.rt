@@ -23,12 +23,10 @@ pub fn csd_sum(ts: &[i32]) -> u32
     requires { length ts.now ≤ most_targets }
     ensures { result ≡ csd_sum (wanted ts.now) }
 {
-    let w = constants::wanted::wanted_of(ts);
+    let wanted = constants::wanted::wanted_of(ts);
     let mut sum: u32 = 0;
-    let mut i = 0;
-    while i < w.count {
-        sum += cost(w.values[i]);
-        i += 1;
+    for c in wanted.iter() {
+        sum += cost(*c);
     }
     sum
 }
