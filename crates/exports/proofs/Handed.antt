@@ -1,7 +1,7 @@
 -- What the calls for other languages share: an answer handed back as its code, and numbers that fit. Assumes nothing.
-use mathlib.Core.Path.{◌≡◌, sym, ap, ◌∙◌, subst}
+use mathlib.Core.Path.{◌≡◌, refl, sym, ap, ◌∙◌, subst}
 use Rattle.std.specs.Prelude.{Result, Ok, Err, IsOkAnd, MatchResult}
-use mathlib.Core.Bool.{Bool, true, false, cond}
+use mathlib.Core.Bool.{Bool}
 use mathlib.Core.List.{List, [], ◌∷◌}
 use Prim.Native.Nat.{ℕ, ◌*◌, ◌≤◌}
 use native.Mathlib.Omega.{arith}
@@ -16,10 +16,11 @@ use Rattle.meaning.specs.declared.Refusal.{Refusal}
 use Rattle.meaning.specs.declared.Refusal.TheVariants as no
 use Rattle.meaning.specs.Basics.{over}
 use Rattle.meaning.specs.Graph.{row_length}
-use Rattle.meaning.specs.Refusals.{Accepted, buffer, given, ranking_order, widths_order, ranked, measured}
+use Rattle.meaning.specs.Refusals.{Answer, Accepted, buffer, given, ranking_order, widths_order, ranked, measured}
 use Rattle.meaning.specs.Listing.{text_room, job_text, printed_told, text_written}
 use Rattle.meaning.specs.Calls.{Prints}
 use Rattle.laws.proofs.Refusals.Stages.{first_accepts, need_accepts, told_accepts}
+use Rattle.std.specs.Result.{result_and}
 use Rattle.exports.specs.Codes.{code, Coded}
 
 -- the code of a number that stands for what an answer tells is that answer's code
@@ -29,6 +30,31 @@ unfolding code
 code_mapped told (Ok x) (Ok k) h = ap pos h
 code_mapped told (Ok x) (Err e) h = absurd h
 code_mapped told (Err e) n h = ap (code (λ k. k)) h
+
+-- which an answer that is a number tells as it is
+pub number_mapped : (a n : Result ℕ Refusal) (k : ℕ) → MatchResult a (λ x. IsOkAnd n (λ k. k ≡ x)) (λ e. n ≡ Err e) → n ≡ Ok k → a ≡ Ok k
+number_mapped (Ok x) (Ok y) k h e = ap Ok (let f : y ≡ k = cc in sym h ∙ f)
+number_mapped (Ok x) (Err y) k h e = absurd h
+number_mapped (Err y) n k h e = absurd (let z : ◌≡◌ {A = ℕ} 0 1 = let f = sym h ∙ e in cc in omega arith)
+
+-- the same of a number that is told for every acceptance
+pub code_and : (a : Answer) (n : ℕ) → code (λ k. k) (result_and a (Ok n)) ≡ code (λ _. n) a
+unfolding code
+code_and (Ok _) n = refl
+code_and (Err e) n = refl
+
+pub and_accepts : (a : Answer) (n k : ℕ) → result_and a (Ok n) ≡ Ok k → (a ≡ Accepted) × (k ≡ n)
+and_accepts (Ok _) n k e = (refl, cc)
+and_accepts (Err why) n k e = absurd (let z : ◌≡◌ {A = ℕ} 0 1 = cc in omega arith)
+
+-- and of a refusal and an acceptance, each handed on by itself
+pub code_done : {A : Type 0} (a : Result A Refusal) (x : A) (n : ℕ) → a ≡ Ok x → code (λ k. k) (Ok n) ≡ code (λ _. n) a
+unfolding code
+code_done a x n e = sym (ap (code (λ _. n)) e)
+
+pub code_refused : {A : Type 0} (a : Result A Refusal) (why : Refusal) (n : ℕ) → a ≡ Err why → code (λ k. k) (Err why) ≡ code (λ _. n) a
+unfolding code
+code_refused a why n e = sym (ap (code (λ _. n)) e)
 
 -- a call's answer, handed back as its code z
 pub handed : {A : Type 0} (Call : Result A Refusal → Type 0) (told : A → ℕ) (a : Result A Refusal) (z : ℤ) → SFits w64 z → z ≡ code told a → Call a

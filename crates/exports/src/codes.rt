@@ -32,6 +32,13 @@ pub fn of(answer: Result<u64, Refusal>) -> i64
     }
 }
 
+// A length as a number of 64 bits, for which there is no From.
+pub fn wide(n: usize) -> u64
+    ensures { result ≡ n }
+{
+    n as u64
+}
+
 // 0, 1 or 2 operations, and 3 for beyond.
 pub fn operations(far: Far) -> u64
     ensures { result ≡ operations far }

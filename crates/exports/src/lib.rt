@@ -19,7 +19,7 @@ pub fn tauwaage_generate(bits: u32, targets: &[i32], words: &mut [u32]) -> i64
 pub fn tauwaage_check(bits: u32, targets: &[i32], rows: usize, words: &[u32]) -> i64
     ensures { Coded (λ a. Checks bits targets.now rows words.now a) (λ _. 0) result }
 {
-    codes::of(graph::check(bits, targets, rows, words).map(|()| 0))
+    codes::of(graph::check(bits, targets, rows, words).and(Ok(0)))
 }
 
 // A product for each target over the front of out; answers how many they are.
@@ -34,7 +34,7 @@ pub fn tauwaage_products(
     ensures { Coded (λ a. Multiplies bits targets.now rows words.now x a out.old out.new) (λ _. length targets.now) result }
 {
     let answer = products::multiply(bits, targets, rows, words, x, out);
-    codes::of(answer.map(|()| targets.len() as u64))
+    codes::of(answer.and(Ok(targets.len() as u64)))
 }
 
 // The widths of the rows and then of the outputs over the front of out; answers how many they are.
@@ -68,7 +68,7 @@ pub fn tauwaage_ranking(
     ensures { Coded (λ a. Ranks bits targets.now rows words.now input a out.old out.new) (λ _. rows) result }
 {
     let answer = ranking::rank(bits, targets, rows, words, input, out);
-    codes::of(answer.map(|()| rows as u64))
+    codes::of(answer.and(Ok(rows as u64)))
 }
 
 // How far a constant is from a ready list: 0, 1, 2, and 3 for beyond.
@@ -82,14 +82,14 @@ pub fn tauwaage_distance(bits: u32, ready: &[u32], target: u32) -> i64
 pub fn tauwaage_job(text: &[u8], out: &mut [u8]) -> i64
     ensures { Coded (λ a. Prints text.now a out.old out.new) (λ n. n) result }
 {
-    codes::of(reply::answer(text, out).map(|n| n as u64))
+    codes::of(reply::answer(text, out).map(codes::wide))
 }
 
 // A constant taken apart: sign, shift and odd part over the front of out; answers 3.
 pub fn tauwaage_apart(constant: i32, out: &mut [i32]) -> i64
     ensures { Coded (λ a. TakesApart constant a out.old out.new) (λ _. 3) result }
 {
-    codes::of(constants::apart_to(constant, out).map(|()| 3))
+    codes::of(constants::apart_to(constant, out).and(Ok(3)))
 }
 
 // A constant's canonic form, the places of its digits 1 and of its digits -1, over the front of out; answers how many there are.

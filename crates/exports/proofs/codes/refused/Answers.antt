@@ -15,4 +15,4 @@ fit c = search rules
 pub returns : goal.returns
 returns c =
     to_z-of_z w64 _ (fit c)
-    ∙ refusal_told _ _ _ c.negative.ensures (omega (arith, c.number-number.ensures, c.place-place.ensures))
+    ∙ refusal_told _ _ _ c.negative.ensures (omega (arith, c.from-number.ensures, c.from-place.ensures))
