@@ -56,7 +56,7 @@ def functions(lines):
     """Each function of a module: its type's and its own name, whether it is public, and its lines."""
     owner, found = None, []
     for line in lines:
-        if block := re.match(r"impl (\w+)", line):
+        if block := re.match(r"impl(?:<[^>]*>)? (\w+)", line):
             owner = block[1]
         if line.startswith("}"):
             owner = None

@@ -1,1 +1,2 @@
 pub mod ValidRowLaws
+pub mod Stages

@@ -3,23 +3,24 @@
 
 mod valid_row;
 
-ghost use Rattle.std.specs.Prelude.{◌≡◌, ◌||◌, [], ◌≤◌, leb, length};
+ghost use Rattle.std.specs.Prelude.{◌≡◌, ◌||◌, [], ◌≤◌, leb, length, Err, IfOk, IfErr};
 ghost use Rattle.meaning.specs.Limits.{most_targets};
 ghost use Rattle.meaning.specs.declared.Refusal.TheVariants.{Unserved};
 ghost use Rattle.meaning.specs.Basics.{has};
-ghost use Rattle.meaning.specs.Graph.{RowsIn, rows, is_served};
-ghost use Rattle.meaning.specs.Refusals.{need_each, valid_rows, all_served};
+ghost use Rattle.meaning.specs.Graph.{rows, is_served};
+ghost use Rattle.meaning.specs.Refusals.{Accepted, need_each, valid_rows, all_served, checked, sized};
 ghost use Rattle.meaning.specs.Calls.{Checks, ChecksWidth};
 
-use meaning::{LEAST_WIDTH, MOST_ROWS, MOST_WIDTH, Refusal};
+use meaning::{LEAST_WIDTH, MOST_WIDTH, Refusal};
+use rows::Rows;
 
 // Refusal 6 with the first row that is not valid.
-fn valid_rows(b: u32, n: usize, words: &[u32]) -> Result<(), Refusal>
-    requires { ((2 ≤ b) × (b ≤ 16)) × RowsIn n words.now }
-    ensures { result ≡ valid_rows b (rows n words.now) }
+fn valid_rows(b: u32, graph: Rows) -> Result<(), Refusal>
+    requires { (2 ≤ b) × (b ≤ 16) }
+    ensures { result ≡ valid_rows b (rows graph.entry.count graph.entry.words.now) }
 {
-    for i in 0..n {
-        if !valid_row::row_fits(b, words, i) {
+    for i in 0..graph.count {
+        if !valid_row::row_fits(b, graph, i) {
             return Err(Refusal::Row((i + 1) as u32));
         }
     }
@@ -46,35 +47,58 @@ fn each_served(ts: &[i32], values: &[u32]) -> Result<(), Refusal>
     Ok(())
 }
 
-// The same of the rows in a slice.
-fn all_served(ts: &[i32], n: usize, words: &[u32]) -> Result<(), Refusal>
-    requires { (length ts.now ≤ most_targets) × RowsIn n words.now }
-    ensures { result ≡ all_served (rows n words.now) ts.now }
+// The same by the rows of a graph.
+fn all_served(ts: &[i32], graph: Rows) -> Result<(), Refusal>
+    requires { length ts.now ≤ most_targets }
+    ensures { result ≡ all_served (rows graph.entry.count graph.entry.words.now) ts.now }
 {
-    let mut values = [0u32; MOST_ROWS];
-    rows::values(n, words, &mut values);
-    each_served(ts, &values[..n])
+    each_served(ts, graph.values().as_slice())
 }
 
-// Refusals 1, 2, 3, 5, 6 and 7. Words beyond the rows are ignored.
-pub fn check(b: u32, ts: &[i32], n: usize, words: &[u32]) -> Result<(), Refusal>
-    ensures { Checks b ts.now n words.now result }
+// The rows of a graph that passes the check. Refusals 1, 2, 3, 5, 6 and 7. Words beyond the rows are ignored.
+#[tactic(auto, using(crate::proofs::Stages::admits_bits, crate::proofs::Stages::admits_list, crate::proofs::Stages::list_refused, crate::proofs::Stages::count_refused, crate::proofs::Stages::row_refused, crate::proofs::Stages::target_refused, crate::proofs::Stages::accepted))]
+pub fn accept<'a>(b: u32, ts: &[i32], n: usize, words: &'a [u32]) -> Result<Rows<'a>, Refusal>
+    ensures rows { IfOk result (λ graph. (graph.count ≡ n) × (graph.words.now ≡ words.now) × (checked b ts.now n words.now ≡ Accepted)) }
+    ensures refusal { IfErr result (λ why. checked b ts.now n words.now ≡ Err why) }
 {
     constants::admit(b, ts)?;
-    if !rows::within(n, words) {
-        return Err(Refusal::RowCount);
-    }
-    valid_rows(b, n, words)?;
-    all_served(ts, n, words)
+    let graph = Rows::of(n, words).ok_or(Refusal::RowCount)?;
+    valid_rows(b, graph)?;
+    all_served(ts, graph)?;
+    Ok(graph)
 }
 
-// As check, then 9: for the calls that speak of widths.
-pub fn check_width(b: u32, ts: &[i32], n: usize, words: &[u32], input: u32) -> Result<(), Refusal>
-    ensures { ChecksWidth b ts.now n words.now input result }
+// As accept, then 9: for the calls that speak of widths.
+#[tactic(auto, using(crate::proofs::Stages::graph_refused, crate::proofs::Stages::width_refused, crate::proofs::Stages::width_accepted))]
+pub fn accept_width<'a>(
+    b: u32,
+    ts: &[i32],
+    n: usize,
+    words: &'a [u32],
+    input: u32,
+) -> Result<Rows<'a>, Refusal>
+    ensures rows { IfOk result (λ graph. (graph.count ≡ n) × (graph.words.now ≡ words.now) × (sized b ts.now n words.now input ≡ Accepted)) }
+    ensures refusal { IfErr result (λ why. sized b ts.now n words.now input ≡ Err why) }
 {
-    check(b, ts, n, words)?;
+    let graph = accept(b, ts, n, words)?;
     if !arith::within(input as usize, LEAST_WIDTH, MOST_WIDTH) {
         return Err(Refusal::Width);
     }
+    Ok(graph)
+}
+
+// As accept, for a caller that has no use for the rows.
+pub fn check(b: u32, ts: &[i32], n: usize, words: &[u32]) -> Result<(), Refusal>
+    ensures { Checks b ts.now n words.now result }
+{
+    accept(b, ts, n, words)?;
+    Ok(())
+}
+
+// As accept_width, for the same.
+pub fn check_width(b: u32, ts: &[i32], n: usize, words: &[u32], input: u32) -> Result<(), Refusal>
+    ensures { ChecksWidth b ts.now n words.now input result }
+{
+    accept_width(b, ts, n, words, input)?;
     Ok(())
 }

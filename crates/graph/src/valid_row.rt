@@ -1,11 +1,12 @@
 // A row's validity: its words agree with a valid operation on the values of its two indices, which are below its own.
-ghost use Rattle.std.specs.Prelude.{◌≡◌, ◌&&◌, ◌+◌, ◌*◌, ◌≤◌, length};
+ghost use Rattle.std.specs.Prelude.{◌≡◌, ◌&&◌, ◌≤◌, ◌<◌};
 ghost use Rattle.meaning.specs.Basics.{all};
 ghost use Rattle.meaning.specs.Limits.{bit_tests, limit};
 ghost use Rattle.meaning.specs.Operation.{is_valid};
-ghost use Rattle.meaning.specs.Graph.{row_length, row_after, rows, does_fit};
+ghost use Rattle.meaning.specs.Graph.{row_after, rows, does_fit};
 
 use meaning::Row;
+use rows::Rows;
 
 // A row's shifts, sign, r and value agree with a valid operation on u and v.
 fn agrees(b: u32, u: u32, v: u32, x: Row) -> bool
@@ -18,17 +19,17 @@ fn agrees(b: u32, u: u32, v: u32, x: Row) -> bool
 }
 
 // The row after i rows is valid after them, under the bit limit b.
-pub fn row_fits(b: u32, words: &[u32], i: usize) -> bool
-    requires { ((2 ≤ b) × (b ≤ 16)) × (row_length * (i + 1) ≤ length words.now) }
-    ensures { result ≡ does_fit (limit b) (rows i words.now) (row_after words.now i) }
+pub fn row_fits(b: u32, graph: Rows, i: usize) -> bool
+    requires { ((2 ≤ b) × (b ≤ 16)) × (i < graph.count) }
+    ensures { result ≡ does_fit (limit b) (rows i graph.entry.words.now) (row_after graph.entry.words.now i) }
 {
-    let x = rows::row_after(words, i);
+    let x = graph.after(i);
     let first = x.u as usize;
     let second = x.v as usize;
     if i < first || i < second {
         return false;
     }
-    let u = rows::value_at(words, i, first);
-    let v = rows::value_at(words, i, second);
+    let u = graph.value_at(i, first);
+    let v = graph.value_at(i, second);
     agrees(b, u, v, x)
 }

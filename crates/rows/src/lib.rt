@@ -1,11 +1,13 @@
 // A graph's rows in a lent slice of words: the only place that knows which word stands where. One row read and written, the
-// value of an index, the values of all, and the index that an output uses.
+// value of an index, the values of all, and the index that an output uses; and the rows as one value, which cannot exceed the slice.
 #![tactic(auto)]
 
-ghost use Rattle.std.specs.Prelude.{◌≡◌, ◌+◌, ◌*◌, ◌≤◌, length};
+ghost use Rattle.std.specs.Prelude.{◌≡◌, ◌+◌, ◌*◌, ◌<◌, ◌≤◌, length, IfSome, is_some};
 ghost use Rattle.meaning.specs.Basics.{all, over, over_at};
+ghost use Rattle.meaning.specs.Limits.{most_rows};
 ghost use Rattle.meaning.specs.Graph.{row_length, row_tests, words, row_after, rows, values as graph_values, value_at, output_index};
 
+use arrayvec::ArrayVec;
 use meaning::{MOST_ROWS, ROW_LENGTH, Row};
 
 // The row after i rows.
@@ -75,4 +77,55 @@ pub fn put_row(out: &mut [u32], i: usize, x: Row)
 {
     let at = ROW_LENGTH * i;
     out[at..at + ROW_LENGTH].copy_from_slice(&[x.u, x.v, x.l1, x.l2, x.s, x.r, x.value]);
+}
+
+// The rows of a graph: how many, and the lent words that hold them.
+#[derive(Clone, Copy)]
+pub struct Rows<'a> {
+    pub words: &'a [u32],
+    pub count: usize,
+    ghost few: { count ≤ most_rows },
+    ghost within: { row_length * count ≤ length words.now },
+}
+
+impl<'a> Rows<'a> {
+    // The first so many rows of the words, where they are few enough and within the slice.
+    pub fn of(count: usize, words: &'a [u32]) -> Option<Rows<'a>>
+        ensures there { is_some result ≡ all (row_tests count words.now) }
+        ensures those { IfSome result (λ r. (r.count ≡ count) × (r.words.now ≡ words.now)) }
+    {
+        if within(count, words) {
+            Some(Rows { words, count })
+        } else {
+            None
+        }
+    }
+
+    // The row after i rows.
+    pub fn after(self, i: usize) -> Row
+        requires { i < self.count }
+        ensures { result ≡ row_after self.entry.words.now i }
+    {
+        row_after(self.words, i)
+    }
+
+    // The value of an index, over the first i rows.
+    pub fn value_at(self, i: usize, index: usize) -> u32
+        requires { (index ≤ i) × (i ≤ self.count) }
+        ensures { result ≡ value_at (rows i self.entry.words.now) index }
+    {
+        value_at(self.words, i, index)
+    }
+
+    // The rows' values, in their order.
+    #[tactic(auto, using(crate::proofs::Places::values_none, crate::proofs::Places::values_more, crate::proofs::Places::values_room))]
+    pub fn values(self) -> ArrayVec<u32, MOST_ROWS>
+        ensures { result.items ≡ graph_values (rows self.entry.count self.entry.words.now) }
+    {
+        let mut values = ArrayVec::new();
+        for i in 0..self.count {
+            values.push(self.after(i).value);
+        }
+        values
+    }
 }

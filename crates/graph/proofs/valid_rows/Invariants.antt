@@ -8,4 +8,4 @@ use Rattle.graph.proofs.valid_rows.Given as goal
 
 -- the answer for the rows is the answer for what is left of them
 abbrev pub invariant-loop-i : goal.invariant-loop-i
-invariant-loop-i l = valid_rows l.b (rows l.n l.words) ≡ need_each no.Row (does_fit (limit l.b)) (take l.i (rows l.n l.words)) (drop l.i (rows l.n l.words))
+invariant-loop-i l = valid_rows l.b (rows l.graph.count l.graph.words.now) ≡ need_each no.Row (does_fit (limit l.b)) (take l.i (rows l.graph.count l.graph.words.now)) (drop l.i (rows l.graph.count l.graph.words.now))
