@@ -1,2 +1,3 @@
 -- The laws that the code's proofs share.
 pub mod Laws
+pub mod Ranked

@@ -5,30 +5,21 @@ pub mod bits;
 
 ghost use Rattle.std.specs.Prelude.{◌≡◌, map, ◌+◌, ◌≤◌, length};
 ghost use Rattle.meaning.specs.Basics.{over, over_at};
-ghost use Rattle.meaning.specs.Graph.{RowsIn, rows, values};
+ghost use Rattle.meaning.specs.Graph.{rows, values};
 ghost use Rattle.meaning.specs.Widths.{row_width, output_width};
 ghost use Rattle.meaning.specs.Calls.{Measures};
 
-use meaning::{MOST_ROWS, Refusal};
+use meaning::Refusal;
+use rows::Rows;
 
-// The rows' widths by their values, from the front.
-fn each_width(values: &[u32], input: u32, out: &mut [u32])
-    requires { (input ≤ 32) × (length values.now ≤ length out.old) }
-    ensures { out.new ≡ over (map (row_width input) values.now) out.old }
+// The rows' widths, from the front.
+fn row_widths(graph: Rows, input: u32, out: &mut [u32])
+    requires { (input ≤ 32) × (graph.count ≤ length out.old) }
+    ensures { out.new ≡ over (map (row_width input) (values (rows graph.entry.count graph.entry.words.now))) out.old }
 {
-    for (i, value) in values.iter().enumerate() {
-        out[i] = bits::row_width(*value, input);
+    for (i, place) in out[..graph.count].iter_mut().enumerate() {
+        *place = bits::row_width(graph.after(i).value, input);
     }
-}
-
-// The same of the rows in a slice.
-fn row_widths(words: &[u32], n: usize, input: u32, out: &mut [u32])
-    requires { ((input ≤ 32) × RowsIn n words.now) × (n ≤ length out.old) }
-    ensures { out.new ≡ over (map (row_width input) (values (rows n words.now))) out.old }
-{
-    let mut values = [0u32; MOST_ROWS];
-    rows::values(n, words, &mut values);
-    each_width(&values[..n], input, out);
 }
 
 // The outputs' widths, in the order of the targets, from a place on.
@@ -42,6 +33,7 @@ fn output_widths(ts: &[i32], input: u32, from: usize, out: &mut [u32])
 }
 
 // Rows in row order, then outputs. Refusals as check, then 9, then 4.
+#[tactic(auto, using(crate::proofs::Measured::room_for_both, crate::proofs::Measured::narrow_input))]
 pub fn measure(
     b: u32,
     ts: &[i32],
@@ -52,11 +44,11 @@ pub fn measure(
 ) -> Result<(), Refusal>
     ensures { Measures b ts.now n words.now input result out.old out.new }
 {
-    graph::check_width(b, ts, n, words, input)?;
+    let graph = graph::accept_width(b, ts, n, words, input)?;
     if out.len() < n + ts.len() {
         return Err(Refusal::Buffer);
     }
-    row_widths(words, n, input, out);
+    row_widths(graph, input, out);
     output_widths(ts, input, n, out);
     Ok(())
 }
