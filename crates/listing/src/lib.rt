@@ -12,6 +12,7 @@ ghost use Rattle.writing.specs.Wrote.{Wrote};
 ghost use Rattle.listing.specs.Parts.{Listable, Printable, printed};
 
 use meaning::{Head, MOST_ROWS};
+use rows::Rows;
 
 // The row numbers 1 to n, from the front.
 fn count_up(order: &mut [u32], n: usize)
@@ -60,9 +61,8 @@ pub fn write(out: &mut [u8], head: Head, ts: &[i32], words: &[u32], n: usize) ->
     requires { Listable head ts.now n words.now (length out.old) }
     ensures { Wrote out.old 0 (listing_of (graph_in head ts.now n words.now)) out.new result }
 {
-    let mut values = [0u32; MOST_ROWS];
-    rows::values(n, words, &mut values);
+    let values = Rows { words, count: n }.values();
     let mut order = [0u32; MOST_ROWS];
-    arrange(head.by_width, &values[..n], &mut order);
-    print(out, head, ts, words, &order[..n], &values[..n])
+    arrange(head.by_width, values.as_slice(), &mut order);
+    print(out, head, ts, words, &order[..n], values.as_slice())
 }
