@@ -25,6 +25,7 @@ fn above(n: u32) -> u32
 }
 
 #[tactic(auto, using(laws::proofs::Digits::Canonic::above_less, laws::proofs::Digits::Count::nonzeros_zero, laws::proofs::Digits::Count::nonzeros_step, laws::proofs::Digits::Count::few_seventeen))]
+// How many digits of its canonic form are nonzero. A `while`, as below: no index is counted, the number shrinks.
 pub fn nonzero_digits(n: u32) -> u32
     ensures { result ≡ nonzeros (canonic n) }
 {

@@ -37,7 +37,7 @@ fn beyond_by(map: &mut [u8], limit: u32, vals: &[u32], c: u32) -> Far
     Far::Beyond
 }
 
-// The same by a map of its own.
+// The same by a map of its own: memory is fixed, and the long one takes longer to clear.
 fn beyond_zero(limit: u32, vals: &[u32], c: u32) -> Far
     requires { (limit ≤ long_limit) × Away limit vals.now c }
     ensures { result ≡ distance_distance limit vals.now c }

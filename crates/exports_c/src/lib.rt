@@ -1,4 +1,5 @@
-// The calls for C: include/tauwaage.h. Each is the call of the crate exports, under the same clauses.
+// The calls for C: include/tauwaage.h. Each is the call of the crate exports, under the same clauses: a crate is a library, as that one, or a static
+// library, as this.
 #![tactic(auto)]
 
 ghost use Rattle.std.specs.Prelude.{◌+◌, length};

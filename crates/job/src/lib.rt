@@ -39,7 +39,7 @@ fn report_line(s: &[u8], at: usize) -> Option<(bool, usize)>
     None
 }
 
-// Numbers joined by commas, those that have room, and where the next line begins.
+// Numbers joined by commas, those that have room, and where the next line begins. A `loop`: the next place is where a number ends.
 fn numbers(s: &[u8], from: usize) -> Option<(ArrayVec<i32, JOB_TARGETS>, usize)>
     ensures { result ≡ held JOB_TARGETS (job_numbers (length s.now) s.now from) }
 {

@@ -56,7 +56,7 @@ fn print(
     lines::out_lines(out, at, input, values, ts)
 }
 
-// The listing of n rows, from the front of a buffer that has room for it.
+// The listing of n rows, from the front of a buffer that has room for it. The order is an array: the ranking writes over the front of what it is lent.
 pub fn write(out: &mut [u8], head: Head, ts: &[i32], words: &[u32], n: usize) -> usize
     requires { Listable head ts.now n words.now (length out.old) }
     ensures { Wrote out.old 0 (listing_of (graph_in head ts.now n words.now)) out.new result }
