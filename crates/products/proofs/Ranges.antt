@@ -69,7 +69,7 @@ no_zeros : shift_of (pos 0) ≡ 0
 unfolding zeros zeros_in
 no_zeros = refl
 
-module _ (n : ℕ) (w : List ℕ) (g : Graph n w) (x : ℤ) (low : nat_abs x ≤ 2 ^ 31) where
+module _ (n : ℕ) (w : List ℕ) (g : Graph (rows n w)) (x : ℤ) (low : nat_abs x ≤ 2 ^ 31) where
   -- 2 ^ (limit + 1)
   top : 2 ^ suc g.limit ≤ 2 ^ 20
   top = pow_mono {i = suc g.limit} {j = 20} (let h = g.most in omega arith)
@@ -83,7 +83,6 @@ module _ (n : ℕ) (w : List ℕ) (g : Graph n w) (x : ℤ) (low : nat_abs x ≤
       let d : ps ≡ map (λ v. pos v *ℤ x) vals = e ∙ products_are g.limit (rows i w) x s in
       let at : (k : ℕ) → get_or ps k (pos 0) ≡ pos (get_or vals k 0) *ℤ x = λ k. ap (λ qs. get_or qs k (pos 0)) d ∙ product_at x vals k in
       record {
-        room = let r = g.room in omega arith;
         count = ap length d ∙ length-map vals (λ v. pos v *ℤ x) ∙ length_ready i w ∙ omega arith;
         first = let a = f.first in omega (arith, length_ready i w);
         second = let a = f.second in omega (arith, length_ready i w);
@@ -129,5 +128,5 @@ module _ (vals : List ℕ) where
       }
 
 -- the products of valid rows are made
-pub made_of : (n : ℕ) (w : List ℕ) → Graph n w → (x : ℤ) → nat_abs x ≤ 2 ^ 31 → (ps : List ℤ) → ps ≡ products (rows n w) x → Made (values (rows n w)) ps
+pub made_of : (n : ℕ) (w : List ℕ) → Graph (rows n w) → (x : ℤ) → nat_abs x ≤ 2 ^ 31 → (ps : List ℤ) → ps ≡ products (rows n w) x → Made (values (rows n w)) ps
 made_of n w g x low ps e = record { x = x; small = low; are = e ∙ products_are g.limit (rows n w) x g.sound }

@@ -3,41 +3,42 @@
 
 mod row_product;
 
-ghost use Rattle.std.specs.Prelude.{◌≡◌, map, ◌+◌, ◌≤◌, T, length, take};
-ghost use Rattle.meaning.specs.Refusals.{Accepted};
+ghost use Rattle.std.specs.Prelude.{◌≡◌, map, ◌<◌, ◌≤◌, T, length};
 ghost use Rattle.meaning.specs.Basics.{every, over};
 ghost use Rattle.meaning.specs.Graph.{row_after, rows, values as graph_values, ready, is_served};
 ghost use Rattle.meaning.specs.Products.{row_product, products, target_product, target_products};
-ghost use Rattle.meaning.specs.Refusals.{checked};
 ghost use Rattle.meaning.specs.Calls.{Multiplies};
-ghost use Rattle.products.specs.Worked.{Next, Graph, Made, Targets};
+ghost use Rattle.products.specs.Worked.{Next, Graph, Made};
 
-use meaning::{MOST_READY, MOST_ROWS, Refusal};
+use arrayvec::ArrayVec;
+use meaning::{MOST_READY, Refusal};
+use rows::Rows;
 
 // The product of the row after i rows, from the products of the indices before it.
-fn next_product(words: &[u32], i: usize, before: &[i64]) -> i64
-    requires { Next words.now i before.now }
-    ensures { result ≡ row_product (ready (rows i words.now)) before.now (row_after words.now i) }
+fn next_product(graph: Rows, i: usize, before: &[i64]) -> i64
+    requires { (i < graph.count) × Next graph.words.now i before.now }
+    ensures { result ≡ row_product (ready (rows i graph.entry.words.now)) before.now (row_after graph.entry.words.now i) }
 {
-    let x = rows::row_after(words, i);
+    let x = graph.after(i);
     let first = x.u as usize;
     let second = x.v as usize;
-    let u = rows::value_at(words, i, first);
-    let v = rows::value_at(words, i, second);
+    let u = graph.value_at(i, first);
+    let v = graph.value_at(i, second);
     let p = before[first];
     let q = before[second];
     row_product::row_product(u, v, p, q, x)
 }
 
 // The products by index; the input's is x.
-fn products_of(n: usize, words: &[u32], x: i32) -> [i64; MOST_READY]
-    requires { Graph n words.now }
-    ensures { take (n + 1) result ≡ products (rows n words.now) x }
+fn products_of(graph: Rows, x: i32) -> ArrayVec<i64, MOST_READY>
+    requires { Graph (rows graph.count graph.words.now) }
+    ensures { result.items ≡ products (rows graph.entry.count graph.entry.words.now) x }
 {
-    let mut made = [0i64; MOST_READY];
-    made[0] = x as i64;
-    for i in 0..n {
-        made[i + 1] = next_product(words, i, &made[..i + 1]);
+    let mut made = ArrayVec::new();
+    made.push(i64::from(x));
+    for i in 0..graph.count {
+        let next = next_product(graph, i, made.as_slice());
+        made.push(next);
     }
     made
 }
@@ -63,26 +64,20 @@ fn write_targets(ts: &[i32], values: &[u32], made: &[i64], out: &mut [i64])
     }
 }
 
-// The same by the rows in a slice.
-fn target_products(ts: &[i32], n: usize, words: &[u32], made: &[i64], out: &mut [i64])
-    requires { Targets ts.now n words.now made.now out.old }
-    ensures { out.new ≡ over (map (target_product (graph_values (rows n words.now)) made.now) ts.now) out.old }
+// The targets' products of a graph that serves them, written from the front of `out`.
+fn work(graph: Rows, ts: &[i32], x: i32, out: &mut [i64])
+    requires valid { Graph (rows graph.count graph.words.now) }
+    requires served { T (every (is_served (graph_values (rows graph.count graph.words.now))) ts.now) }
+    requires room { length ts.now ≤ length out.old }
+    ensures { out.new ≡ over (target_products (rows graph.entry.count graph.entry.words.now) x ts.now) out.old }
 {
-    let mut values = [0u32; MOST_ROWS];
-    rows::values(n, words, &mut values);
-    write_targets(ts, &values[..n], made, out);
-}
-
-// The targets' products of a graph that the check accepts under the bit limit b, written from the front of `out`.
-fn work(b: u32, ts: &[i32], n: usize, words: &[u32], x: i32, out: &mut [i64])
-    requires { (checked b ts.now n words.now ≡ Accepted) × (length ts.now ≤ length out.old) }
-    ensures { out.new ≡ over (target_products (rows n words.now) x ts.now) out.old }
-{
-    let made = products_of(n, words, x);
-    target_products(ts, n, words, &made[..n + 1], out);
+    let values = graph.values();
+    let made = products_of(graph, x);
+    write_targets(ts, values.as_slice(), made.as_slice(), out);
 }
 
 // A product for each target. Refusals as check, then 4.
+#[tactic(auto, using(crate::proofs::Multiplied::rows_valid, crate::proofs::Multiplied::rows_serve))]
 pub fn multiply(
     b: u32,
     ts: &[i32],
@@ -93,10 +88,10 @@ pub fn multiply(
 ) -> Result<(), Refusal>
     ensures { Multiplies b ts.now n words.now x result out.old out.new }
 {
-    graph::check(b, ts, n, words)?;
+    let graph = graph::accept(b, ts, n, words)?;
     if out.len() < ts.len() {
         return Err(Refusal::Buffer);
     }
-    work(b, ts, n, words, x, out);
+    work(graph, ts, x, out);
     Ok(())
 }
