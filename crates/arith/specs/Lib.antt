@@ -1,3 +1,2 @@
--- What the code of a search and of an insertion works by.
-pub mod Places
+-- What the code of an insertion works by.
 pub mod Insertion
