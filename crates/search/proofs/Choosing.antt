@@ -12,7 +12,7 @@ use native.Mathlib.Omega.{arith}
 use lib.Dec.{T, ltb, ltb→lt, lt→ltb}
 use lib.ListN.{get_or, take, length-take}
 use lib.Seq.{get_or-take}
-use lib.Pow.{pow_pos}
+use lib.Pow.{pow_pos, pow_mono}
 use Rattle.meaning.specs.Basics.{any}
 use Rattle.meaning.specs.Distance.{does_reach, does_serve, candidates}
 use Rattle.laws.proofs.Lists.Tests.{bool_ext, both_of, of_both, true_of, false_of, T_of}
@@ -45,6 +45,18 @@ take_odd L xs n r u i =
     let (k, h, e) = mem_take xs n u i in
     let o = r.1 k h in
     (ap (λ (x : ℕ). x % 2) e ∙ o.0, rw e o.1)
+
+-- ---- the bound of the search
+
+-- it is not above 2 ^ limit, nor is that above 2 ^ 19
+pub bound_least : (L c e lim : ℕ) → Odd L c → e ≡ min (2 ^ (L - 1)) (lim + 1) → 2 * e ≤ 2 ^ L
+bound_least L c e lim o h = omega (arith, half L (some_bits L c o))
+
+pub bound_most : (L c e lim : ℕ) → Odd L c → L ≤ 19 → e ≡ min (2 ^ (L - 1)) (lim + 1) → 2 * e ≤ 2 ^ 19
+bound_most L c e lim o h l = omega (arith, half L (some_bits L c o), pow_mono {i = L} {j = 19} h)
+
+pub bound_some : (L e lim : ℕ) → e ≡ min (2 ^ (L - 1)) (lim + 1) → 1 ≤ e
+bound_some L e lim h = omega (arith, pow_pos (L - 1))
 
 -- ---- what the map and the tests say
 

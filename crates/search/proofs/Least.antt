@@ -1,6 +1,6 @@
 -- The least value so far: how looking at more values composes, and what each step of the code looks at. Assumes nothing.
 use mathlib.Core.Path.{◌≡◌, refl, sym, ap, ap₂, ◌∙◌, subst, subst⁻¹}
-use mathlib.Core.Bool.{Bool, true, false, ◌||◌, or_assoc}
+use mathlib.Core.Bool.{Bool, ◌||◌, or_assoc}
 use mathlib.Core.List.{List, [], ◌∷◌, ◌++◌}
 use mathlib.Core.Logic.{⊎_elim}
 use Prim.Native.Nat.{ℕ, zero, suc, ◌+◌, ◌-◌, ◌*◌, ◌/◌, ◌%◌, ◌^◌, ◌≤◌, ◌<◌}
@@ -8,15 +8,14 @@ use native.Mathlib.Decide.{dec_le}
 use native.Mathlib.Omega.{arith}
 use native.Mathlib.Numerals.{add-one}
 use native.Mathlib.Nat.{mul_assoc, div-add-mod', mul-div_cancel, mul-mod_left}
-use lib.Dec.{T, eqb, eqb→eq, eqb_refl}
+use lib.Dec.{T, eqb, eqb→eq}
 use lib.ListN.{length, get_or, take}
 use lib.Pow.{pow_mono}
 use Rattle.meaning.specs.Basics.{zeros}
 use Rattle.meaning.specs.Operation.{Odd}
 use Rattle.meaning.specs.Distance.{is_one_op}
-use Rattle.laws.proofs.Lists.Tests.{bool_ext, eqb_of_eq, either_of, of_left, of_right, T_of}
+use Rattle.laws.proofs.Lists.Tests.{bool_ext, eqb_of_eq, either_of, of_left, of_right}
 use Rattle.search.specs.Sides.{does_hit, is_side_to, is_with, is_factor, is_twice}
-use Rattle.search.specs.Marks.{marked}
 use Rattle.search.specs.Walk.{pairs_from, is_among}
 use Rattle.search.proofs.Sides.{any_up, hit_outcome, outcome_hit, with_suc}
 use Rattle.search.proofs.Walk.{among_suc, side_is}
@@ -30,15 +29,6 @@ seen_as p f = record { odd = p.odd; from = p.from; has = p.has; test = f p.test 
 -- nothing is found
 pub lowers_none : {map : List ℕ} {low a : ℕ} {Q : ℕ → Bool} → ((s : ℕ) → s < a → Seen map low Q s → ⊥) → Lowers map low Q a a
 lowers_none h = record { least = omega arith; found = λ l. absurd (omega arith); none_below = h }
-
--- one number is found
-lowers_one : {map : List ℕ} {low a : ℕ} {Q : ℕ → Bool} (m : ℕ) → m < a → Seen map low Q m → ((s : ℕ) → T (Q s) → s ≡ m) → Lowers map low Q a m
-lowers_one m h p f =
-    record {
-      least = omega arith;
-      found = λ l. p;
-      none_below = λ s l q. let e = f s q.test in absurd (omega arith);
-    }
 
 -- tests that agree below what is there
 pub lowers_same : {map : List ℕ} {low a b : ℕ} {P Q : ℕ → Bool} → Lowers map low P a b → ((s : ℕ) → s < a → P s ≡ Q s) → Lowers map low Q a b
@@ -68,21 +58,6 @@ lowers_then {map} {low} {a} {b} {c} {P} {Q} {R} x y e =
         let k : b ≡ c = omega (arith, y.least) in
         subst (Seen map low R) k (seen_as (x.found (omega arith)) (λ t. subst T (e b) (of_left (P b) (Q b) t)))
     go h (no q) = seen_as (y.found (omega arith)) (λ t. subst T (e c) (of_right (P c) (Q c) t))
-
--- ---- one number
-
-module _ (map : List ℕ) (low m best : ℕ) where
-  pub lower_small : m < low → Lowers map low (λ s. eqb s m) best best
-  lower_small h = lowers_none (λ s l p. let e = eqb→eq s m p.test in omega (arith, p.from))
-
-  pub lower_great : best ≤ m → Lowers map low (λ s. eqb s m) best best
-  lower_great h = lowers_none (λ s l p. let e = eqb→eq s m p.test in omega arith)
-
-  pub lower_hit : m % 2 ≡ 1 → low ≤ m → m < best → marked map m ≡ true → Lowers map low (λ s. eqb s m) best m
-  lower_hit o l h e = lowers_one m h (record { odd = o; from = l; has = T_of e; test = eqb_refl m }) (λ s t. eqb→eq s m t)
-
-  pub lower_miss : marked map m ≡ false → Lowers map low (λ s. eqb s m) best best
-  lower_miss e = lowers_none (λ s l p. subst T e (subst (λ (x : ℕ). T (marked map x)) (eqb→eq s m p.test) p.has))
 
 -- ---- n without its trailing zeros
 

@@ -1,7 +1,6 @@
 -- The least value so far, lowered as more values are looked at. Assumes nothing.
-use Rattle.std.specs.Prelude.{◌≡◌, Bool, List, ℕ, ◌%◌, ◌^◌, ◌≤◌, ◌<◌, T, All}
-use Rattle.meaning.specs.Operation.{Odd}
-use Rattle.search.specs.Marks.{marked, Wide}
+use Rattle.std.specs.Prelude.{◌≡◌, Bool, List, ℕ, ◌%◌, ◌≤◌, ◌<◌, T}
+use Rattle.search.specs.Marks.{marked}
 
 -- the odd number s is not below low, is marked, and passes the test
 pub record Seen (map : List ℕ) (low : ℕ) (Q : ℕ → Bool) (s : ℕ) : Type 0 where
@@ -15,16 +14,3 @@ pub record Lowers (map : List ℕ) (low : ℕ) (Q : ℕ → Bool) (old new : ℕ
   pub least : new ≤ old
   pub found : new < old → Seen map low Q new
   pub none_below : (s : ℕ) → s < new → Seen map low Q s → ⊥
-
--- what may be looked at by a map: the results on two values, and on a constant and each ready value, below what is known
-pub record Looking (L : ℕ) (map : List ℕ) (u v best : ℕ) : Type 0 where
-  pub wide : Wide L map
-  pub first : Odd L u
-  pub second : Odd L v
-  pub known : best ≤ 2 ^ L
-
-pub record LookingAll (L : ℕ) (map vals : List ℕ) (c best : ℕ) : Type 0 where
-  pub wide : Wide L map
-  pub ready : All (Odd L) vals
-  pub constant : Odd L c
-  pub known : best ≤ 2 ^ L

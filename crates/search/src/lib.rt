@@ -20,6 +20,9 @@ ghost use Rattle.search.specs.Sides.{does_hit, is_side_to, is_with};
 ghost use Rattle.meaning.specs.Operation.{Odd};
 ghost use Rattle.search.specs.Marks.{Holds, Adds, marked, short_limit, Wide, State};
 
+// Here the map and its limit stay two parameters: a struct that lends the map on would promise in each method, besides what is
+// marked, that it holds the same reference and the same limit. `serving`, which only reads, has them as one value.
+
 // n without its trailing zeros is marked, if that is below 2^limit.
 fn mark(map: &mut [u8], limit: u32, n: u64)
     requires { Wide limit map.old }
@@ -46,7 +49,8 @@ fn side(map: &mut [u8], limit: u32, u: u32, v: u32)
     }
 }
 
-// All results of operations on u and v are marked: one of the two shifts is 0.
+// All results of operations on u and v are marked: one of the two shifts is 0. The twin `look_pair` goes over the same results, but
+// looks each up and keeps the least (docs/DECISIONS.md, 36).
 fn pair(map: &mut [u8], limit: u32, u: u32, v: u32)
     requires { Wide limit map.old × Odd limit u × Odd limit v }
     ensures { Adds map.old map.new (λ c. is_one_op limit u v c) }
@@ -55,7 +59,7 @@ fn pair(map: &mut [u8], limit: u32, u: u32, v: u32)
     side(map, limit, v, u);
 }
 
-// All results of operations on v and each ready value are marked.
+// All results of operations on v and each ready value are marked. The twin `look_each` keeps the least of them instead.
 fn with_each(map: &mut [u8], limit: u32, ready: &[u32], v: u32)
     requires { Wide limit map.old × All (Odd limit) ready.now × Odd limit v }
     ensures { Adds map.old map.new (λ c. is_with limit v ready.now c) }
@@ -65,7 +69,8 @@ fn with_each(map: &mut [u8], limit: u32, ready: &[u32], v: u32)
     }
 }
 
-// The map of what one operation on the first n ready values reaches becomes that with one value more.
+// The map of what one operation on the first n ready values reaches becomes that with one value more. n stands beside the slice,
+// since the contract (docs/CONTRACTS.md) speaks of the first n of what is lent.
 pub fn add(map: &mut [u8], limit: u32, ready: &[u32], n: usize, v: u32)
     requires { State limit map.old ready.now n × Odd limit v }
     ensures map_len_unchanged { length map.new ≡ length map.old }
