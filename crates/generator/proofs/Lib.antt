@@ -4,3 +4,4 @@ pub mod RuleLaws
 pub mod DraftLaws
 pub mod FirstChoice
 pub mod RemainingLaws
+pub mod TurnSteps

@@ -6,11 +6,11 @@ use Rattle.meaning.specs.Limits.{most_rows}
 use Rattle.meaning.specs.Graph.{row_length}
 use Rattle.meaning.specs.Distance.{does_reach}
 use Rattle.meaning.specs.Generator.{row_for, rule_b, added, turns}
-use Rattle.search.specs.declared.ready.Ready.{Ready}
 use Rattle.search.specs.Held.{listed}
 use Rattle.meaning.specs.Operation.{Odd}
 use Rattle.search.specs.Marks.{long_limit, State}
 use Rattle.generator.specs.Growth.{Servable, drawn_rows, Open}
+use Rattle.generator.specs.declared.draft.Draft.{Draft}
 use Rattle.generator.specs.declared.rule.Chosen.{Chosen}
 
 abbrev pub AllServable : ℕ → List ℕ → Type 0
@@ -34,17 +34,17 @@ abbrev pub NoneNear : ℕ → List ℕ → List ℕ → Type 0
 NoneNear L vals cs = (c : ℕ) → Memᴰ c cs → does_reach L vals c ≡ false
 
 -- step B may be asked: the map is that of the set, and no constant is near
-pub record Pickable (L : ℕ) (map : List ℕ) (set : Ready) (cs : List ℕ) : Type 0 where
-  pub state : State L map set.values set.count
-  pub limit : L ≤ long_limit
-  pub servable : AllServable L cs
-  pub far : NoneNear L (listed set) cs
+pub record Pickable (d : Draft) (cs : List ℕ) : Type 0 where
+  pub state : State d.limit d.map.now d.set.values d.set.count
+  pub limit : d.limit ≤ long_limit
+  pub servable : AllServable d.limit cs
+  pub far : NoneNear d.limit (listed d.set) cs
 
 -- a turn may begin: there is room for its rows, and its constants can be served
-pub record Turning (L : ℕ) (map out : List ℕ) (set : Ready) (cs : List ℕ) : Type 0 where
-  pub room : Open L set map out (length (added L (drawn_rows set out) cs))
-  pub limit : L ≤ long_limit
-  pub servable : AllServable L cs
+pub record Turning (d : Draft) (cs : List ℕ) : Type 0 where
+  pub room : Open d (length (added d.limit (drawn_rows d) cs))
+  pub limit : d.limit ≤ long_limit
+  pub servable : AllServable d.limit cs
 
 -- ---- all turns
 

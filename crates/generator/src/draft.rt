@@ -1,21 +1,21 @@
 // A graph being drawn: each step adds rows to the lent words, to the ready set and to the map of what one operation reaches.
-ghost use Rattle.std.specs.Prelude.{◌≡◌, [], ◌∷◌, length, option_to_list};
+ghost use Rattle.std.specs.Prelude.{◌≡◌, [], ◌∷◌, ◌≤◌, length, option_to_list};
 ghost use Rattle.meaning.specs.Digits.{prefixes};
 ghost use Rattle.meaning.specs.Generator.{row_of, row_for, rule_c};
 ghost use Rattle.meaning.specs.Operation.{Odd};
-ghost use Rattle.generator.specs.Growth.{drawn_rows, Open, Grown, prefix_rows, Servable};
+ghost use Rattle.search.specs.Marks.{State};
+ghost use Rattle.generator.specs.Growth.{drawn_rows, Begun, Open, Grown, prefix_rows, Servable};
 
 use meaning::{Choice, Prefix, Row};
 use search::ready::Ready;
 
-// One row more.
-fn add_row(map: &mut [u8], limit: u32, set: Ready, out: &mut [u32], x: Row) -> Ready
-    requires { Open limit set map.old out.old 1 × Odd limit x.value }
-    ensures { Grown limit set (x ∷ []) result map.new out.old out.new }
-{
-    rows::put_row(out, set.count - 1, x);
-    search::add(map, limit, &set.values, set.count, x.value);
-    set.with(x.value)
+// The words and the map are lent; the set's values are the input's and, in order, those of the rows at the front of the words.
+#[derive(Drop)]
+pub struct Draft<'a> {
+    pub map: &'a mut [u8],
+    pub limit: u32,
+    pub set: Ready,
+    pub out: &'a mut [u32],
 }
 
 // The row of a choice that gives c.
@@ -33,48 +33,79 @@ fn row_of(c: u32, x: Choice) -> Row
     }
 }
 
-// The first row that makes c, where there is one.
-pub fn add_first(map: &mut [u8], limit: u32, set: Ready, out: &mut [u32], c: u32) -> Ready
-    requires { Open limit set map.old out.old 1 × Odd limit c }
-    ensures { Grown limit set (option_to_list (row_for limit (drawn_rows set out.old) c)) result map.new out.old out.new }
-{
-    let ready = &set.values[..set.count];
-    let Some(x) = crate::first_choice::choice_for(limit, ready, c) else {
-        return set;
-    };
-    let row = row_of(c, x);
-    add_row(map, limit, set, out, row)
-}
-
-// The row of a prefix that is not yet ready, from the prefix before it.
-fn add_prefix(map: &mut [u8], limit: u32, set: Ready, out: &mut [u32], p: Prefix) -> Ready
-    requires { Open limit set map.old out.old (length (prefix_rows (drawn_rows set out.old) p)) × Odd limit p.value }
-    ensures { Grown limit set (prefix_rows (drawn_rows set out.old) p) result map.new out.old out.new }
-{
-    if arith::has(&set.values, set.count, p.value) {
-        return set;
+impl<'a> Draft<'a> {
+    // The input alone, by a map of zeros.
+    pub fn start(map: &'a mut [u8], limit: u32, out: &'a mut [u32]) -> Draft<'a>
+        requires { (1 ≤ limit) × State limit map.old [] 0 }
+        ensures map { result.map.ghost_name ≡ map.entry.ghost_name }
+        ensures out { result.out.ghost_name ≡ out.entry.ghost_name }
+        ensures begun { Begun limit out.old result }
+    {
+        let set = Ready::start();
+        search::add(map, limit, &set.values, 0, 1);
+        Draft {
+            map,
+            limit,
+            set,
+            out,
+        }
     }
-    let x = Row {
-        u: set.index_of(p.before),
-        v: 0,
-        l1: p.gap,
-        l2: 0,
-        s: p.s,
-        r: 0,
-        value: p.value,
-    };
-    add_row(map, limit, set, out, x)
-}
 
-// Step C for the constant c: its prefixes, shortest first.
-pub fn add_prefixes(map: &mut [u8], limit: u32, set: Ready, out: &mut [u32], c: u32) -> Ready
-    requires { Open limit set map.old out.old (length (rule_c (drawn_rows set out.old) (prefixes c))) × Servable limit c }
-    ensures { Grown limit set (rule_c (drawn_rows set out.old) (prefixes c)) result map.new out.old out.new }
-{
-    let prefixes = digits::prefixes_of(c);
-    let mut more = set;
-    for p in prefixes.as_slice() {
-        more = add_prefix(map, limit, more, out, *p);
+    // One row more.
+    fn add_row(&mut self, x: Row)
+        requires { Open self.old 1 × Odd self.old.limit x.value }
+        ensures { Grown self.old (x ∷ []) self.new }
+    {
+        rows::put_row(self.out, self.set.count - 1, x);
+        search::add(
+            self.map,
+            self.limit,
+            &self.set.values,
+            self.set.count,
+            x.value,
+        );
+        self.set = self.set.with(x.value);
     }
-    more
+
+    // The first row that makes c, where there is one.
+    pub fn add_first(&mut self, c: u32)
+        requires { Open self.old 1 × Odd self.old.limit c }
+        ensures { Grown self.old (option_to_list (row_for self.old.limit (drawn_rows self.old) c)) self.new }
+    {
+        let ready = &self.set.values[..self.set.count];
+        let Some(x) = crate::first_choice::choice_for(self.limit, ready, c) else {
+            return;
+        };
+        self.add_row(row_of(c, x));
+    }
+
+    // The row of a prefix that is not yet ready, from the prefix before it.
+    fn add_prefix(&mut self, p: Prefix)
+        requires { Open self.old (length (prefix_rows (drawn_rows self.old) p)) × Odd self.old.limit p.value }
+        ensures { Grown self.old (prefix_rows (drawn_rows self.old) p) self.new }
+    {
+        if arith::has(&self.set.values, self.set.count, p.value) {
+            return;
+        }
+        self.add_row(Row {
+            u: self.set.index_of(p.before),
+            v: 0,
+            l1: p.gap,
+            l2: 0,
+            s: p.s,
+            r: 0,
+            value: p.value,
+        });
+    }
+
+    // Step C for the constant c: its prefixes, shortest first.
+    pub fn add_prefixes(&mut self, c: u32)
+        requires { Open self.old (length (rule_c (drawn_rows self.old) (prefixes c))) × Servable self.old.limit c }
+        ensures { Grown self.old (rule_c (drawn_rows self.old) (prefixes c)) self.new }
+    {
+        let prefixes = digits::prefixes_of(c);
+        for p in prefixes.as_slice() {
+            self.add_prefix(*p);
+        }
+    }
 }

@@ -63,7 +63,7 @@ fn signs(p: Pair, l1: u32, l2: u32) -> Option<Choice>
     choice(p, l1, l2, 0).or_else(|| choice(p, l1, l2, 1))
 }
 
-// Where l1 is 0.
+// Where l1 is 0. Apart from `lefts`, since it shifts the other operand and begins at 0 (docs/DECISIONS.md, 36).
 fn rights(p: Pair) -> Option<Choice>
     requires { Sought p }
     ensures { result ≡ right_choice p }

@@ -12,36 +12,27 @@ ghost use Rattle.meaning.specs.Limits.{limit as limits_limit, most_targets, most
 ghost use Rattle.meaning.specs.Graph.{row_length, flat};
 ghost use Rattle.meaning.specs.Refusals.{Accepted, admitted};
 ghost use Rattle.meaning.specs.Calls.{Generates};
-ghost use Rattle.search.specs.Held.{Started};
 ghost use Rattle.search.specs.Marks.{State};
 ghost use Rattle.generator.specs.Rule.{turned, Drawable};
 
+use crate::draft::Draft;
 use constants::wanted::wanted_of;
 use meaning::{FULL_LENGTH, Refusal};
 use search::ready::Ready;
 use search::{LONG_MAP, SHORT_MAP};
 
-// The input alone.
-fn start(map: &mut [u8], limit: u32) -> Ready
-    requires { (1 ≤ limit) × State limit map.old [] 0 }
-    ensures { Started result × State limit map.new result.values result.count }
-{
-    let set = Ready::start();
-    search::add(map, limit, &set.values, 0, 1);
-    set
-}
-
 // As many turns as there are constants.
+#[tactic(auto, using(crate::proofs::Turns::turned_start, crate::proofs::Turns::turned_more))]
 fn draw(map: &mut [u8], limit: u32, out: &mut [u32], wanted: &[u32]) -> Ready
     requires { Drawable limit map.old out.old wanted.now × (length wanted.now ≤ most_targets) }
     ensures { (result.count ≡ length (turned limit wanted.now) + 1) × (out.new ≡ over (flat (turned limit wanted.now)) out.old) }
 {
-    let mut set = start(map, limit);
+    let mut draft = Draft::start(map, limit, out);
     for _ in 0..wanted.len() {
-        let left = remaining::left(set, wanted);
-        set = rule::turn(map, limit, set, out, &left);
+        let left = remaining::left(draft.set, wanted);
+        draft.turn(&left);
     }
-    set
+    draft.set
 }
 
 // The rows for an admitted list, by a map of zeros.

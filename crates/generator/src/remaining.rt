@@ -9,6 +9,7 @@ use meaning::MOST_TARGETS;
 use search::ready::Ready;
 
 // The wanted constants that are not ready.
+#[tactic(auto, using(crate::proofs::RemainingLaws::sift_start, crate::proofs::RemainingLaws::sift_end))]
 pub fn left(set: Ready, wanted: &[u32]) -> ArrayVec<u32, MOST_TARGETS>
     requires { length wanted.now ≤ most_targets }
     ensures { result.items ≡ remaining (listed set) wanted.now }

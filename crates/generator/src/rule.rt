@@ -7,7 +7,7 @@ ghost use Rattle.search.specs.Marks.{marked};
 ghost use Rattle.generator.specs.Growth.{drawn_rows, Grown};
 ghost use Rattle.generator.specs.Rule.{Pickable, Picked, Turning};
 
-use search::ready::Ready;
+use crate::draft::Draft;
 
 // A constant and the smallest value that serves it.
 #[derive(Clone, Copy)]
@@ -16,44 +16,58 @@ pub struct Chosen {
     pub s: u32,
 }
 
-// Step A's constant, the smallest that one operation reaches.
-fn nearest(map: &[u8], wanted: &[u32]) -> Option<u32>
-    ensures { result ≡ find (marked map.now) wanted.now }
-{
-    wanted.iter().copied().find(|c| search::reached(map, *c))
-}
-
 // As many trials as there are candidates under any limit.
 const ALL_TRIALS: u32 = 65535;
 
-// Step B's constant and value.
-fn pick(map: &[u8], limit: u32, set: Ready, wanted: &[u32]) -> Option<Chosen>
-    requires { Pickable limit map.now set wanted.now }
-    ensures { (before : _) → ready before ≡ listed set → Picked limit before wanted.now result }
-{
-    for c in wanted {
-        let trials = search::serving::choose(map, limit, &set.values, set.count, *c, ALL_TRIALS);
-        if let Some(s) = trials.value {
-            return Some(Chosen { c: *c, s });
-        }
+impl Draft<'_> {
+    // Step A's constant, the smallest that one operation reaches.
+    fn nearest(&self, wanted: &[u32]) -> Option<u32>
+        ensures { result ≡ find (marked self.now.map.now) wanted.now }
+    {
+        wanted
+            .iter()
+            .copied()
+            .find(|c| search::reached(self.map, *c))
     }
-    None
-}
 
-// One turn, for the constants that remain.
-pub fn turn(map: &mut [u8], limit: u32, set: Ready, out: &mut [u32], wanted: &[u32]) -> Ready
-    requires { Turning limit map.old out.old set wanted.now }
-    ensures { Grown limit set (added limit (drawn_rows set out.old) wanted.now) result map.new out.old out.new }
-{
-    if wanted.is_empty() {
-        return set;
+    // Step B's constant and value.
+    fn pick(&self, wanted: &[u32]) -> Option<Chosen>
+        requires { Pickable self.now wanted.now }
+        ensures { (before : _) → ready before ≡ listed self.now.set → Picked self.now.limit before wanted.now result }
+    {
+        for c in wanted {
+            let trials = search::serving::choose(
+                self.map,
+                self.limit,
+                &self.set.values,
+                self.set.count,
+                *c,
+                ALL_TRIALS,
+            );
+            if let Some(s) = trials.value {
+                return Some(Chosen { c: *c, s });
+            }
+        }
+        None
     }
-    if let Some(c) = nearest(map, wanted) {
-        return crate::draft::add_first(map, limit, set, out, c);
+
+    // One turn, for the constants that remain.
+    pub fn turn(&mut self, wanted: &[u32])
+        requires { Turning self.old wanted.now }
+        ensures { Grown self.old (added self.old.limit (drawn_rows self.old) wanted.now) self.new }
+    {
+        if wanted.is_empty() {
+            return;
+        }
+        if let Some(c) = self.nearest(wanted) {
+            self.add_first(c);
+            return;
+        }
+        if let Some(x) = self.pick(wanted) {
+            self.add_first(x.s);
+            self.add_first(x.c);
+            return;
+        }
+        self.add_prefixes(wanted[0]);
     }
-    if let Some(x) = pick(map, limit, set, wanted) {
-        let more = crate::draft::add_first(map, limit, set, out, x.s);
-        return crate::draft::add_first(map, limit, more, out, x.c);
-    }
-    crate::draft::add_prefixes(map, limit, set, out, wanted[0])
 }

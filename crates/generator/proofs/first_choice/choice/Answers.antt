@@ -4,7 +4,7 @@ use Prim.Native.Nat.{◌/◌, ◌^◌, ◌<◌}
 use native.Mathlib.Omega.{arith}
 use lib.Count.{count_trailing_zeros}
 use Rattle.meaning.specs.Basics.{zeros}
-use Rattle.laws.proofs.Whole.Zeros.{machine_is, zeros_low}
+use Rattle.laws.proofs.Whole.Zeros.{machine_is}
 use Rattle.std.specs.Prelude.{Some}
 use Rattle.generator.proofs.FirstChoice.{choice_miss, choice_hit}
 use Rattle.generator.proofs.first_choice.choice.Goals as goal
@@ -16,19 +16,10 @@ positive c = omega (arith, c.if-m-eq0.false)
 counts : (c : Else-m-eq0) → count_trailing_zeros 64 c.size_of-m.result ≡ zeros c.size_of-m.result
 counts c = machine_is 64 c.size_of-m.result (positive c) (omega (arith, c.size_of-m.type_inv))
 
-few : (c : Else-m-eq0) → count_trailing_zeros 64 c.size_of-m.result < 64
-few c = rw (counts c) (zeros_low 64 c.size_of-m.result (positive c) (omega (arith, c.size_of-m.type_inv)))
-
 pub returns-then-m-eq0 : goal.returns-then-m-eq0
 returns-then-m-eq0 c =
     let a = c.args in
     choice_miss a.p a.l1 a.l2 a.s _ c.size_of-m.ensures (λ h e. omega (arith, c.if-m-eq0.true))
-
-pub overflow_cast-r : goal.overflow_cast-r
-overflow_cast-r c = record { fits = omega (arith, few c) }
-
-pub overflow_shr-m : goal.overflow_shr-m
-overflow_shr-m c = few c
 
 pub returns-then-m-r : goal.returns-then-m-r
 returns-then-m-r c =

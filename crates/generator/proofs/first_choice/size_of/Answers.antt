@@ -4,9 +4,6 @@ use Prim.Native.Nat.{suc, ◌-◌}
 use native.Mathlib.Omega.{arith}
 use Rattle.generator.proofs.first_choice.size_of.Goals as goal
 
-pub returns-then-s-eq0 : goal.returns-then-s-eq0
-returns-then-s-eq0 c = rw c.if-s-eq0.true (omega arith)
-
 pub returns : goal.returns
 returns c =
     let e : c.args.s ≡ suc (c.args.s - 1) = omega arith in rw e (omega arith)

@@ -4,15 +4,9 @@ use mathlib.Core.List.{List}
 use Prim.Native.Nat.{ℕ, ◌+◌}
 use native.Mathlib.Omega.{arith}
 use Rattle.search.specs.Held.{listed}
-use Rattle.generator.proofs.RemainingLaws.{Sifted, sift_start, sift_ready, sift_left, sift_end}
+use Rattle.generator.proofs.RemainingLaws.{Sifted, sift_ready, sift_left}
 use Rattle.generator.proofs.remaining.left.Goals as goal
 use Rattle.generator.proofs.remaining.left.Goals.{then-not-has, else-not-has}
-
-pub loop-c-init : goal.loop-c-init
-loop-c-init c = subst⁻¹ (λ (r : List ℕ). Sifted (listed c.args.set) c.args.wanted.now r 0) c.new-left.ensures (sift_start (listed c.args.set) c.args.wanted.now)
-
-pub push-requires : goal.push-requires
-push-requires c = omega (arith, c.loop-c.invariant.bound)
 
 pub loop-c-preserved : goal.loop-c-preserved
 loop-c-preserved c =
@@ -26,6 +20,3 @@ loop-c-preserved c =
           subst⁻¹ (λ (r : List ℕ). Sifted (listed a.set) a.wanted.now r (l.c-index + 1)) (ap (λ r. r.items) w.left-is)
           (sift_ready (listed a.set) a.wanted.now _ l.c-index l.invariant (omega arith) (sym c.has.ensures ∙ w.if-not-has.false))
     ]
-
-pub returns : goal.returns
-returns c = sift_end (listed c.args.set) c.args.wanted.now _ c.loop-c.c-index c.loop-c.invariant (omega arith)
