@@ -9,7 +9,7 @@ fn negative(k: u64) -> i64
     requires { k < 2 ^ 63 }
     ensures { result ≡ minus k }
 {
-    0 - (k as i64)
+    -(k as i64)
 }
 
 // A refusal's code: never 0 or more.

@@ -1,4 +1,4 @@
-// The calls for programs in other languages: numbers and slices in, one signed number out (codes/specs/Codes.antt). Slices are
+// The calls for programs in other languages: numbers and slices in, one signed number out (specs/Codes.antt). Slices are
 // lent for the call alone; include/tauwaage.h says the rest.
 #![tactic(auto)]
 

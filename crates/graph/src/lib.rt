@@ -34,7 +34,7 @@ fn served(odd: u32, values: &[u32]) -> bool
     odd <= 1 || arith::has(values, values.len(), odd)
 }
 
-// Refusal 7 with the first target whose odd part no row has.
+// Refusal 7 with the first target whose odd part no row has. The list is lent, so what `admit` found of its length is asked for, that its places fit.
 fn each_served(ts: &[i32], values: &[u32]) -> Result<(), Refusal>
     requires { length ts.now ≤ most_targets }
     ensures { result ≡ need_each Unserved (λ _ t. is_served values.now t) [] ts.now }

@@ -40,7 +40,7 @@ pub fn value_at(words: &[u32], i: usize, index: usize) -> u32
     }
 }
 
-// The values of n rows, over the front of out.
+// The values of n rows, over the front of out. Beside `Rows::values`, since n may be more than Rows holds here.
 pub fn values(n: usize, words: &[u32], out: &mut [u32])
     requires { (row_length * n ≤ length words.now) × (n ≤ length out.old) }
     ensures { out.new ≡ over (graph_values (rows n words.now)) out.old }

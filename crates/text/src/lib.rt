@@ -1,4 +1,5 @@
-// Texts in slices of bytes: what stands at a place, a number there, and a line of a form.
+// Texts in slices of bytes: what stands at a place, a number there, and a line of a form. A text and a place are two parameters, as in the
+// definitions: what is read hands back the place behind it.
 #![tactic(auto)]
 
 pub mod decimal;

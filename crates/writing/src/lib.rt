@@ -1,4 +1,5 @@
 // Texts, and lines by their forms, written at a place of a lent buffer that has room for them; each function hands back the place behind its text.
+// Buffer and place are two parameters, since `Wrote` is of the place before and the place behind.
 #![tactic(auto)]
 
 ghost use Rattle.std.specs.Prelude.{◌≡◌, ◌+◌, ◌≤◌, pos, length, get_or, drop};
