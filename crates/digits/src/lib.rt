@@ -24,8 +24,8 @@ fn above(n: u32) -> u32
     if n % 4 == 3 { n / 2 + 1 } else { n / 2 }
 }
 
-#[tactic(auto, using(laws::proofs::Digits::Canonic::above_less, laws::proofs::Digits::Count::nonzeros_zero, laws::proofs::Digits::Count::nonzeros_step, laws::proofs::Digits::Count::few_seventeen))]
 // How many digits of its canonic form are nonzero. A `while`, as below: no index is counted, the number shrinks.
+#[tactic(auto, using(laws::proofs::Digits::Canonic::above_less, laws::proofs::Digits::Count::nonzeros_zero, laws::proofs::Digits::Count::nonzeros_step, laws::proofs::Digits::Count::few_seventeen))]
 pub fn nonzero_digits(n: u32) -> u32
     ensures { result ≡ nonzeros (canonic n) }
 {

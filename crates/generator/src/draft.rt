@@ -104,7 +104,7 @@ impl<'a> Draft<'a> {
         ensures { Grown self.old (rule_c (drawn_rows self.old) (prefixes c)) self.new }
     {
         let prefixes = digits::prefixes_of(c);
-        for p in prefixes.as_slice() {
+        for p in prefixes.iter() {
             self.add_prefix(*p);
         }
     }

@@ -41,8 +41,8 @@ fn choice(p: Pair, l1: u32, l2: u32, s: u32) -> Option<Choice>
     if m == 0 {
         return None;
     }
-    let r = u64::trailing_zeros(m);
-    if m >> r != p.c as u64 {
+    let r = m.trailing_zeros();
+    if m >> r != u64::from(p.c) {
         return None;
     }
     Some(Choice {

@@ -54,6 +54,7 @@ pub fn generate(b: u32, ts: &[i32], out: &mut [u32]) -> Result<u32, Refusal>
     if out.len() < FULL_LENGTH {
         return Err(Refusal::Buffer);
     }
+    // Each array stands where it is used: fixed memory, and only the one that serves is cleared.
     if search::short_serves(arith::limit(b)) {
         let mut short = [0u8; SHORT_MAP];
         return Ok(rows_by(&mut short, b, ts, out));

@@ -37,7 +37,7 @@ fn products_of(graph: Rows, x: i32) -> ArrayVec<i64, MOST_READY>
     let mut made = ArrayVec::new();
     made.push(i64::from(x));
     for i in 0..graph.count {
-        let next = next_product(graph, i, made.as_slice());
+        let next = next_product(graph, i, &made);
         made.push(next);
     }
     made
@@ -51,7 +51,7 @@ fn target_product(values: &[u32], made: &[i64], t: i32) -> i64
     let parts = constants::take_apart(t);
     let index = rows::output_index(values, parts.odd);
     let p = made[index];
-    (parts.sign as i64) * row_product::shifted(p, parts.shift)
+    i64::from(parts.sign) * row_product::shifted(p, parts.shift)
 }
 
 // The targets' products, from the front of a lent slice.
@@ -73,7 +73,7 @@ fn work(graph: Rows, ts: &[i32], x: i32, out: &mut [i64])
 {
     let values = graph.values();
     let made = products_of(graph, x);
-    write_targets(ts, values.as_slice(), made.as_slice(), out);
+    write_targets(ts, &values, &made, out);
 }
 
 // A product for each target. Refusals as check, then 4.

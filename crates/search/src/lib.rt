@@ -81,14 +81,12 @@ pub fn add(map: &mut [u8], limit: u32, ready: &[u32], n: usize, v: u32)
 }
 
 // The odd number c is marked.
+#[tactic(auto, unfolding(crate::specs::Marks::marked))]
 pub fn reached(map: &[u8], c: u32) -> bool
     ensures { result ≡ marked map.now c }
 {
     let at = (c / 2) as usize;
-    if at >= map.len() {
-        return false;
-    }
-    map[at] == 1
+    map.get(at) == Some(&1)
 }
 
 // A short map has a byte for each odd number below 2^limit. Clearing the long one, which always has, takes longer than drawing a

@@ -5,7 +5,8 @@ ghost use Rattle.search.specs.Held.{listed, Started, Added};
 
 use meaning::MOST_READY;
 
-// As many values as a full graph has indices; the places from `count` on hold no value of the set.
+// As many values as a full graph has indices; the places from `count` on hold no value of the set. By value, an array with a
+// count: the form that the project names for a set (docs/DECISIONS.md, 56).
 #[derive(Clone, Copy)]
 pub struct Ready {
     pub values: [u32; MOST_READY],

@@ -21,7 +21,7 @@ impl Results {
         requires { limit ≤ most_limit }
         ensures { to_come result ≡ pairs_from u v (u + 2 ^ limit) 0 (limit + 1) }
     {
-        let a = u as u64;
+        let a = u64::from(u);
         let far = a + arith::power(limit);
         Results {
             a,

@@ -34,10 +34,7 @@ impl<'a> Reach<'a> {
         requires { m % 2 ≡ 1 }
         ensures { Lowers self.entry.map.now self.entry.low (λ s. eqb s m) best result }
     {
-        if m < self.low as u64 {
-            return best;
-        }
-        if m >= best as u64 {
+        if !(u64::from(self.low)..u64::from(best)).contains(&m) {
             return best;
         }
         let s = m as u32;
@@ -110,7 +107,7 @@ impl<'a> Reach<'a> {
         requires { c % 2 ≡ 1 }
         ensures { Lowers self.entry.map.now self.entry.low (λ s. is_twice self.entry.limit c s) best result }
     {
-        let d = c as u64;
+        let d = u64::from(c);
         let mut least = best;
         for l in 0..self.limit {
             let p = arith::power(l + 1);
@@ -137,11 +134,7 @@ fn last(limit: u32, ceiling: u32) -> u32
     ensures { result ≡ min (2 ^ (limit - 1)) (ceiling + 1) }
 {
     let whole = arith::power(limit - 1);
-    let most = ceiling as u64 + 1;
-    if most < whole {
-        return most as u32;
-    }
-    whole as u32
+    whole.min(u64::from(ceiling) + 1) as u32
 }
 
 // The smallest s that one operation on the ready values reaches and with which one operation gives c, within `ceiling` trials,

@@ -9,7 +9,7 @@ pub fn extra_bits(value: u32) -> u32
     if value == 0 {
         return 0;
     }
-    32 - u32::leading_zeros(value - 1)
+    32 - (value - 1).leading_zeros()
 }
 
 // The width of a row of this value.

@@ -13,12 +13,12 @@ use Rattle.products.specs.Worked.{Next}
 use Rattle.products.proofs.Laws.{made_first, made_more}
 use Rattle.products.proofs.Ranges.{abs_32, next_of}
 use Rattle.products.proofs.products_of.Goals as goal
-use Rattle.products.proofs.products_of.Goals.{After-as_slice, After-next_product-next}
+use Rattle.products.proofs.products_of.Goals.{After-deref, After-next_product-next}
 
-next : (c : After-as_slice) → Next c.args.graph.words.now c.loop-i.i c.as_slice.result.now
+next : (c : After-deref) → Next c.args.graph.words.now c.loop-i.i c.deref.result.now
 next c =
     let small : nat_abs (to_z w32 (of_z w32 c.args.x)) ≤ 2 ^ 31 = rw (to_z-of_z w32 _ c.ranges.x) (abs_32 _ c.ranges.x) in
-    next_of _ _ c.requires _ small _ _ (omega arith) (c.as_slice.ensures.value ∙ c.loop-i.invariant)
+    next_of _ _ c.requires _ small _ _ (omega arith) (c.deref.ensures.0 ∙ c.loop-i.invariant)
 
 fit : (c : After-next_product-next) → SFits w64 c.next_product-next.result
 fit c = search rules
@@ -33,13 +33,13 @@ next_product-next-requires c = (omega arith, next c)
 
 pub push-requires-in-loop-i : goal.push-requires-in-loop-i
 push-requires-in-loop-i c =
-    let n = next (goal.at.push-requires-in-loop-i c).After-as_slice in
-    omega (arith, ap length c.as_slice.ensures.value, n.count, c.args.graph.few)
+    let n = next (goal.at.push-requires-in-loop-i c).After-deref in
+    omega (arith, ap length c.deref.ensures.0, n.count, c.args.graph.few)
 
 pub loop-i-preserved : goal.loop-i-preserved
 loop-i-preserved c =
     (rw (to_z-of_z w64 _ (fit (goal.at.loop-i-preserved c).After-next_product-next)) at c.push-in-loop-i.ensures.items)
-    ∙ made_more _ _ c.loop-i.i _ _ c.loop-i.invariant (rw c.as_slice.ensures.value at c.next_product-next.ensures)
+    ∙ made_more _ _ c.loop-i.i _ _ c.loop-i.invariant (rw c.deref.ensures.0 at c.next_product-next.ensures)
 
 pub returns : goal.returns
 returns c =

@@ -68,18 +68,15 @@ bounds-made-index c = rw (at_is c) (reached (goal.at.bounds-made-index c).Start)
 pub offset_bounds-made-index : goal.offset_bounds-made-index
 offset_bounds-made-index c = omega (arith, bounds-made-index c)
 
-pub overflow_cast-result : goal.overflow_cast-result
-overflow_cast-result c = rw (read_sign (goal.at.overflow_cast-result c).After-take_apart-parts) (wide _ (sign_fits c.args.t))
-
 pub shifted-requires : goal.shifted-requires
 shifted-requires c =
     rw (p_is (goal.at.shifted-requires c).After-p-1, shift_is (goal.at.shifted-requires c).After-take_apart-parts, at_is (goal.at.shifted-requires c).After-output_index-index) (shift_low c.args.t c.ranges.t, (reached (goal.at.shifted-requires c).Start).low)
 
 pub overflow_mul-result : goal.overflow_mul-result
 overflow_mul-result c =
-    rw (read_sign (goal.at.overflow_mul-result c).After-take_apart-parts, to_z-of_z w64 _ (wide _ (sign_fits c.args.t)), to_z-of_z w64 _ (fit c)) (product_fits c)
+    rw (c.from.ensures, read_sign (goal.at.overflow_mul-result c).After-take_apart-parts, to_z-of_z w64 _ (wide _ (sign_fits c.args.t)), to_z-of_z w64 _ (fit c)) (product_fits c)
 
 pub returns : goal.returns
 unfolding target_product
 returns c =
-    rw (read_sign (goal.at.returns c).After-take_apart-parts, to_z-of_z w64 _ (wide _ (sign_fits c.args.t)), to_z-of_z w64 _ (fit c), to_z-of_z w64 _ (product_fits c), scaled_is c)
+    rw (c.from.ensures, read_sign (goal.at.returns c).After-take_apart-parts, to_z-of_z w64 _ (wide _ (sign_fits c.args.t)), to_z-of_z w64 _ (fit c), to_z-of_z w64 _ (product_fits c), scaled_is c)

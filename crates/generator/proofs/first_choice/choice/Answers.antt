@@ -25,7 +25,7 @@ pub returns-then-m-r : goal.returns-then-m-r
 returns-then-m-r c =
     let a = c.args in
     choice_miss a.p a.l1 a.l2 a.s _ c.size_of-m.ensures
-    (λ h e. c.if-m-r.true (ap (λ k. c.size_of-m.result / 2 ^ k) (counts (goal.at.returns-then-m-r c).Else-m-eq0) ∙ e))
+    (λ h e. c.if-m-r.true (ap (λ k. c.size_of-m.result / 2 ^ k) (counts (goal.at.returns-then-m-r c).Else-m-eq0) ∙ e ∙ sym c.from.ensures))
 
 pub returns : goal.returns
 returns c =
@@ -34,4 +34,4 @@ returns c =
     let (t, h) = c.requires in
     ap (λ r. Some (record { u = a.p.i; v = a.p.j; l1 = a.l1; l2 = a.l2; s = a.s; r = r })) (counts (goal.at.returns c).Else-m-eq0)
     ∙ choice_hit a.p a.l1 a.l2 a.s m c.size_of-m.ensures t.left t.right t.unshifted h (positive (goal.at.returns c).Else-m-eq0)
-    (ap (λ k. m / 2 ^ k) (sym (counts (goal.at.returns c).Else-m-eq0)) ∙ c.if-m-r.false) t.sought.below
+    (ap (λ k. m / 2 ^ k) (sym (counts (goal.at.returns c).Else-m-eq0)) ∙ c.if-m-r.false ∙ c.from.ensures) t.sought.below

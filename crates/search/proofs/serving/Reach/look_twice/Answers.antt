@@ -10,10 +10,10 @@ loop-l-init c = let a = c.args in twice_start a.c a.self.map.now a.self.low a.be
 
 pub look_factor-least-requires : goal.look_factor-least-requires
 look_factor-least-requires c =
-    (c.requires, omega (arith, c.power-p.ensures, power_two c.loop-l.l))
+    (rw c.from-d.ensures c.requires, omega (arith, c.power-p.ensures, power_two c.loop-l.l))
 
 pub loop-l-preserved : goal.loop-l-preserved
 loop-l-preserved c =
     let a = c.args in
     twice_more a.c a.self.map.now a.self.low c.loop-l.l _ _ (ap (λ (x : ℕ). x - 1) c.power-p.ensures.0) (ap (λ (x : ℕ). x + 1) c.power-p.ensures.0)
-    c.loop-l.invariant c.look_factor-least.ensures c.look_factor-least-in-loop-l.ensures
+    c.loop-l.invariant (rw c.from-d.ensures at c.look_factor-least.ensures) (rw c.from-d.ensures at c.look_factor-least-in-loop-l.ensures)
