@@ -1,21 +1,20 @@
 -- Condition 3's sum so far, row numbers counted up, and the numbers of the lines. Assumes nothing.
-use mathlib.Core.Path.{◌≡◌, refl, sym, ap, ◌∙◌, subst}
-use mathlib.Core.List.{List, [], ◌∷◌, ◌++◌, Memᴰ}
-use Prim.Native.Nat.{ℕ, zero, suc, ◌+◌, ◌*◌, ◌≤◌, ◌<◌}
+use mathlib.Core.Path.{◌≡◌, refl, sym, ap, ◌∙◌}
+use mathlib.Core.List.{List, [], ◌∷◌, ◌++◌}
+use Prim.Native.Nat.{ℕ, zero, suc, ◌+◌, ◌≤◌, ◌<◌}
 use native.Mathlib.Nat.{add-zero}
 use native.Mathlib.Numerals.{add-one}
 use native.Mathlib.Omega.{arith}
 use lib.IntN.{ℤ, pos, negsuc, nat_abs}
 use lib.ListN.{length, get_or, set, take, drop, drop_of_length-le, length-map}
 use lib.Seq.{drop-cons, take_at}
-use Rattle.meaning.specs.declared.Head.{Head}
+use Rattle.std.specs.Prelude.{Bool}
 use Rattle.meaning.specs.declared.Row.{Row}
 use Rattle.meaning.specs.Basics.{sum_of, up_from, over}
 use Rattle.meaning.specs.Constants.{wanted}
 use Rattle.meaning.specs.Digits.{cost, csd_sum}
-use Rattle.meaning.specs.Forms.{lines_of, row_form, out_form}
-use Rattle.meaning.specs.Graph.{row_length, rows, values}
-use Rattle.meaning.specs.Listing.{head_text, row_order, nth_row, row_numbers, rows_by, out_numbers, outs_from, graph_in, listing_of}
+use Rattle.meaning.specs.Graph.{rows, values}
+use Rattle.meaning.specs.Listing.{row_order, nth_row, row_numbers, rows_by, out_numbers, outs_from}
 use Rattle.laws.proofs.Lists.Index.{get_or_in}
 use Rattle.laws.proofs.Graph.Rows.{length_rows, length_values}
 use Rattle.laws.proofs.Text.Listings.{order_length, order_in}
@@ -23,7 +22,7 @@ use Rattle.laws.proofs.Lists.Over.{over_at_lem}
 use Rattle.laws.proofs.Lists.First.{up_length, up_more}
 use Rattle.laws.proofs.Constants.Wanted.{wanted_in}
 use Rattle.laws.proofs.Lists.Index.{at_map}
-use Rattle.listing.specs.Parts.{InRows, printed}
+use Rattle.listing.specs.Parts.{InRows}
 
 -- ---- the sum so far, and one more
 
@@ -90,26 +89,17 @@ pub front_of : (new old now : List ℕ) (n : ℕ) → length new ≡ n → now �
 unfolding over
 front_of new old now n e f = ap (take n) f ∙ take_at new _ n e
 
--- ---- the whole
+-- ---- the rows' order
 
-module _ (h : Head) (ts : List ℤ) (n : ℕ) (w order vals : List ℕ) (e : order ≡ row_order h.by_width (values (rows n w))) where
+module _ (by_width : Bool) (n : ℕ) (w : List ℕ) where
+  abbrev order : List ℕ
+  order = row_order by_width (values (rows n w))
+
   pub order_count : length order ≡ n
-  order_count = ap length e ∙ order_length h.by_width (values (rows n w)) ∙ length_values (rows n w) ∙ length_rows n w
+  order_count = order_length by_width (values (rows n w)) ∙ length_values (rows n w) ∙ length_rows n w
 
   at : (k : ℕ) → k < length order → (1 ≤ get_or order k 0) × (get_or order k 0 ≤ length (values (rows n w)))
-  at k l = order_in h.by_width (values (rows n w)) (get_or order k 0) (subst (Memᴰ (get_or order k 0)) e (get_or_in order k 0 l))
+  at k l = order_in by_width (values (rows n w)) (get_or order k 0) (get_or_in order k 0 l)
 
-  pub order_rows : row_length * n ≤ length w → InRows (length order) w order
-  order_rows l = record {
-    within = rw order_count l;
-    low = λ k i. (at k i).0;
-    high = λ k i. omega (arith, (at k i).1, order_count, length_values (rows n w), length_rows n w);
-  }
-
-  -- by the ranking or by row number, and the rows' values
-  pub printed_is : vals ≡ values (rows n w) → printed h ts w order vals ≡ listing_of (graph_in h ts n w)
-  unfolding printed listing_of
-  printed_is f =
-      let made : ℕ → ℕ → List ℕ → List ℕ → List ℕ = λ m k o v.
-      head_text h m (csd_sum (wanted ts)) ++ lines_of row_form (rows_by h.input (rows k w) o) ++ lines_of out_form (outs_from h.input v 1 ts) in
-      λ i. made ((order_count ∙ sym (length_rows n w)) i) (order_count i) (e i) (f i)
+  pub order_rows : InRows n order
+  order_rows = record { low = λ k i. (at k i).0; high = λ k i. omega (arith, (at k i).1, length_values (rows n w), length_rows n w) }

@@ -1,16 +1,12 @@
 -- What the lines of a graph stand on. Assumes nothing.
-use Rattle.std.specs.Prelude.{List, ◌++◌, ℕ, ◌*◌, ◌≤◌, ◌<◌, ℤ, length, get_or}
+use Rattle.std.specs.Prelude.{◌≡◌, List, ℕ, ◌*◌, ◌≤◌, ◌<◌, ℤ, length, get_or}
 use Rattle.meaning.specs.declared.Head.{Head}
-use Rattle.meaning.specs.Constants.{wanted}
-use Rattle.meaning.specs.Digits.{csd_sum}
-use Rattle.meaning.specs.Forms.{lines_of, row_form, out_form}
-use Rattle.meaning.specs.Graph.{row_length, rows}
+use Rattle.meaning.specs.Graph.{row_length, rows, values}
 use Rattle.meaning.specs.Limits.{most_rows, most_targets}
-use Rattle.meaning.specs.Listing.{head_text, rows_by, outs_from, graph_in, listing_of}
+use Rattle.meaning.specs.Listing.{row_order, graph_in, listing_of}
 
--- an order of rows of a slice: each is one of its numbers 1 to n
-pub record InRows (n : ℕ) (w order : List ℕ) : Type 0 where
-  pub within : row_length * n ≤ length w
+-- an order of n rows: each is one of the numbers 1 to n
+pub record InRows (n : ℕ) (order : List ℕ) : Type 0 where
   pub low : (k : ℕ) → k < length order → 1 ≤ get_or order k 0
   pub high : (k : ℕ) → k < length order → get_or order k 0 ≤ n
 
@@ -26,15 +22,9 @@ pub record Listable (h : Head) (ts : List ℤ) (n : ℕ) (w : List ℕ) (room : 
   pub targets : length ts ≤ most_targets
   pub fits : length (listing_of (graph_in h ts n w)) ≤ room
 
--- the listing of as many rows as an order has, by that order and the rows' values
-unfoldable pub printed : Head → List ℤ → List ℕ → List ℕ → List ℕ → List ℕ
-printed h ts w order vals =
-    head_text h (length order) (csd_sum (wanted ts)) ++ lines_of row_form (rows_by h.input (rows (length order) w) order)
-    ++ lines_of out_form (outs_from h.input vals 1 ts)
-
--- and room for it
-pub record Printable (h : Head) (ts : List ℤ) (w order vals : List ℕ) (room : ℕ) : Type 0 where
-  pub few : length order ≤ most_rows
-  pub in_rows : InRows (length order) w order
-  pub in_outs : InOuts vals ts
-  pub fits : length (printed h ts w order vals) ≤ room
+-- n rows' values and their order in the listing, a list, and room for the listing
+pub record Printable (h : Head) (ts : List ℤ) (n : ℕ) (w order vals : List ℕ) (room : ℕ) : Type 0 where
+  pub order_is : order ≡ row_order h.by_width (values (rows n w))
+  pub values_are : vals ≡ values (rows n w)
+  pub targets : length ts ≤ most_targets
+  pub fits : length (listing_of (graph_in h ts n w)) ≤ room

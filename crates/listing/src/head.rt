@@ -36,8 +36,7 @@ fn number_line(out: &mut [u8], at: usize, form: &[u8], z: i64) -> usize
     requires { at + length (line_of form.now (z ∷ [])) ≤ length out.old }
     ensures { Wrote out.old at (line_of form.now (z ∷ [])) out.new result }
 {
-    let numbers = [z];
-    put_line(out, at, form, &numbers)
+    put_line(out, at, form, &[z])
 }
 
 // A line of no number.
@@ -45,8 +44,7 @@ fn plain_line(out: &mut [u8], at: usize, form: &[u8]) -> usize
     requires { at + length (line_of form.now []) ≤ length out.old }
     ensures { Wrote out.old at (line_of form.now []) out.new result }
 {
-    let none = [0i64; 0];
-    put_line(out, at, form, &none)
+    put_line(out, at, form, &[])
 }
 
 fn report(out: &mut [u8], at: usize, by_width: bool) -> usize

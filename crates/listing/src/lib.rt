@@ -9,7 +9,7 @@ ghost use Rattle.meaning.specs.Basics.{over, up_from};
 ghost use Rattle.meaning.specs.Limits.{most_rows};
 ghost use Rattle.meaning.specs.Listing.{row_order, graph_in, listing_of};
 ghost use Rattle.writing.specs.Wrote.{Wrote};
-ghost use Rattle.listing.specs.Parts.{Listable, Printable, printed};
+ghost use Rattle.listing.specs.Parts.{Listable, Printable};
 
 use meaning::{Head, MOST_ROWS};
 use rows::Rows;
@@ -42,17 +42,16 @@ fn print(
     out: &mut [u8],
     head: Head,
     ts: &[i32],
-    words: &[u32],
+    graph: Rows,
     order: &[u32],
     values: &[u32],
 ) -> usize
-    requires { Printable head ts.now words.now order.now values.now (length out.old) }
-    ensures { Wrote out.old 0 (printed head ts.now words.now order.now values.now) out.new result }
+    requires { Printable head ts.now graph.count graph.words.now order.now values.now (length out.old) }
+    ensures { Wrote out.old 0 (listing_of (graph_in head ts.now graph.entry.count graph.entry.words.now)) out.new result }
 {
-    let n = order.len();
     let input = head.input;
-    let at = head::head_lines(out, head, n, head::csd_sum(ts));
-    let at = lines::row_lines(out, at, input, words, n, order);
+    let at = head::head_lines(out, head, graph.count, head::csd_sum(ts));
+    let at = lines::row_lines(out, at, input, graph, order);
     lines::out_lines(out, at, input, values, ts)
 }
 
@@ -61,8 +60,9 @@ pub fn write(out: &mut [u8], head: Head, ts: &[i32], words: &[u32], n: usize) ->
     requires { Listable head ts.now n words.now (length out.old) }
     ensures { Wrote out.old 0 (listing_of (graph_in head ts.now n words.now)) out.new result }
 {
-    let values = Rows { words, count: n }.values();
+    let graph = Rows { words, count: n };
+    let values = graph.values();
     let mut order = [0u32; MOST_ROWS];
     arrange(head.by_width, values.as_slice(), &mut order);
-    print(out, head, ts, words, &order[..n], values.as_slice())
+    print(out, head, ts, graph, &order[..n], values.as_slice())
 }

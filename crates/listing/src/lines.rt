@@ -8,6 +8,7 @@ ghost use Rattle.writing.specs.Wrote.{Wrote};
 ghost use Rattle.listing.specs.Parts.{InRows, InOuts};
 
 use meaning::Row;
+use rows::Rows;
 use widths::bits::{output_width, row_width};
 use writing::put_line;
 
@@ -44,20 +45,13 @@ fn row_line(out: &mut [u8], at: usize, input: i32, i: u32, x: Row) -> usize
 }
 
 // The row lines, in the given order.
-pub fn row_lines(
-    out: &mut [u8],
-    from: usize,
-    input: i32,
-    words: &[u32],
-    n: usize,
-    order: &[u32],
-) -> usize
-    requires { InRows n words.now order.now × (from + length (lines_of row_form (rows_by input (rows n words.now) order.now)) ≤ length out.old) }
-    ensures { Wrote out.old from (lines_of row_form (rows_by input (rows n words.now) order.now)) out.new result }
+pub fn row_lines(out: &mut [u8], from: usize, input: i32, graph: Rows, order: &[u32]) -> usize
+    requires { InRows graph.count order.now × (from + length (lines_of row_form (rows_by input (rows graph.count graph.words.now) order.now)) ≤ length out.old) }
+    ensures { Wrote out.old from (lines_of row_form (rows_by input (rows graph.entry.count graph.entry.words.now) order.now)) out.new result }
 {
     let mut at = from;
     for i in order {
-        let x = rows::row_after(words, *i as usize - 1);
+        let x = graph.after(*i as usize - 1);
         at = row_line(out, at, input, *i, x);
     }
     at

@@ -6,4 +6,4 @@ use Rattle.writing.specs.Wrote.{Wrote}
 use Rattle.listing.proofs.lines.row_lines.Given as goal
 
 abbrev pub invariant-loop-i : goal.invariant-loop-i
-invariant-loop-i l = Wrote l.initial.out l.from (lines_of row_form (take l.i-index (rows_by l.input (rows l.n l.words) l.order))) l.out l.at
+invariant-loop-i l = Wrote l.initial.out l.from (lines_of row_form (take l.i-index (rows_by l.input (rows l.graph.count l.graph.words.now) l.order))) l.out l.at
