@@ -5,7 +5,7 @@ use Prim.Native.Nat.{ℕ, zero, suc, ◌+◌, ◌≤◌, ◌<◌}
 use native.Mathlib.Nat.{add-zero}
 use native.Mathlib.Numerals.{add-one}
 use native.Mathlib.Omega.{arith}
-use lib.IntN.{ℤ, pos, negsuc, nat_abs}
+use lib.IntN.{ℤ, pos}
 use lib.ListN.{length, get_or, set, take, drop, drop_of_length-le, length-map}
 use lib.Seq.{drop-cons, take_at}
 use Rattle.std.specs.Prelude.{Bool}
@@ -48,12 +48,6 @@ counted order now i h e =
     ∙ over_at_lem (up_from 1 i) order (i + 1) i (up_length 1 i) h
     ∙ ap (λ (l : List ℕ). over l order)
     (ap (λ (j : ℕ). up_from 1 i ++ (j ∷ [])) (omega arith) ∙ up_more 1 i ∙ ap (up_from 1) (sym (add-one i)))
-
--- ---- a zero target
-
-pub abs_zero : (t : ℤ) → nat_abs t ≡ 0 → t ≡ pos 0
-abs_zero (pos n) e = ap pos e
-abs_zero (negsuc n) e = absurd (omega arith)
 
 -- ---- the numbers of the line at a place
 
