@@ -1,6 +1,5 @@
 -- What the two calls on one constant write. Assumes nothing.
-use Rattle.std.specs.Prelude.{◌≡◌, List, [], ◌∷◌, ℕ, suc, ◌+◌, ◌/◌, ◌%◌, ◌^◌, ◌≤◌, ℤ, pos, nat_abs, ◌-ℤ◌}
-use Rattle.std.specs.Prelude.{Ok}
+use Rattle.std.specs.Prelude.{◌≡◌, List, [], ◌∷◌, ℕ, suc, ◌+◌, ◌/◌, ◌%◌, ◌^◌, ◌≤◌, ℤ, pos, nat_abs, ◌-ℤ◌, Ok}
 use Rattle.meaning.specs.Refusals.{Accepted}
 use Rattle.meaning.specs.Constants.{sign_of, shift_of, odd_of}
 use Rattle.meaning.specs.Digits.{canonic}

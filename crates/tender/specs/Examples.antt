@@ -1,6 +1,5 @@
 -- The proved sums of document 01, P1 to P10, and its sample listing to the byte, as one table; b = 8 throughout. Assumes nothing.
-use Rattle.std.specs.Prelude.{◌≡◌, List, [], ◌∷◌, ◌++◌, ℕ, ℤ, pos, neg_ℤ}
-use Rattle.std.specs.Prelude.{Some, Ok, Err}
+use Rattle.std.specs.Prelude.{◌≡◌, List, [], ◌∷◌, ◌++◌, ℕ, ℤ, pos, neg_ℤ, Some, Ok, Err}
 use Rattle.meaning.specs.declared.Far.TheVariants.{Zero, One, Two, Beyond}
 use Rattle.meaning.specs.declared.Refusal.TheVariants as no
 use Rattle.meaning.specs.declared.Row.{Row}
