@@ -11,6 +11,7 @@ use Rattle.meaning.specs.declared.Refusal.{Refusal}
 use Rattle.meaning.specs.declared.Refusal.TheVariants as no
 use Rattle.meaning.specs.Basics.{all}
 use Rattle.meaning.specs.Graph.{row_tests, rows}
+use Rattle.meaning.specs.Calls.{Checks, ChecksWidth}
 use Rattle.meaning.specs.Refusals.{Answer, Accepted, admit_order, check_order, row_count, valid_rows, all_served, input_width, admitted, checked, sized, first_of}
 use Rattle.laws.proofs.Refusals.Stages.{stops, passes, passes_on, stops_at}
 use Rattle.laws.proofs.Refusals.Checked.{admitted_of}
@@ -35,36 +36,36 @@ module _ (b : ℕ) (ts : List ℤ) (n : ℕ) (w : List ℕ) where
   counted : admitted b ts ≡ Accepted → all (row_tests n w) ≡ true → checked b ts n w ≡ first_of later
   counted e f = past e ∙ passes no.RowCount (row_tests n w) later f
 
-  pub list_refused : (why : Refusal) → admitted b ts ≡ Err why → checked b ts n w ≡ Err why
+  pub list_refused : (why : Refusal) → admitted b ts ≡ Err why → Checks b ts n w (Err why)
   unfolding checked admitted
-  list_refused why e = sym (stops_at (admit_order b ts) behind (admitted b ts) why refl e) ∙ e
+  list_refused why e = sym e ∙ stops_at (admit_order b ts) behind (admitted b ts) why refl e
 
-  pub count_refused : admitted b ts ≡ Accepted → all (row_tests n w) ≡ false → checked b ts n w ≡ Err no.RowCount
-  count_refused e f = past e ∙ stops no.RowCount (row_tests n w) later f
+  pub count_refused : admitted b ts ≡ Accepted → all (row_tests n w) ≡ false → Checks b ts n w (Err no.RowCount)
+  count_refused e f = sym (past e ∙ stops no.RowCount (row_tests n w) later f)
 
-  pub row_refused : (why : Refusal) → admitted b ts ≡ Accepted → all (row_tests n w) ≡ true → valid_rows b (rows n w) ≡ Err why → checked b ts n w ≡ Err why
-  row_refused why e f g = counted e f ∙ ap (λ a. first_of (a ∷ all_served (rows n w) ts ∷ [])) g
+  pub row_refused : (why : Refusal) → admitted b ts ≡ Accepted → all (row_tests n w) ≡ true → valid_rows b (rows n w) ≡ Err why → Checks b ts n w (Err why)
+  row_refused why e f g = sym (counted e f ∙ ap (λ a. first_of (a ∷ all_served (rows n w) ts ∷ [])) g)
 
   pub target_refused : (why : Refusal) → admitted b ts ≡ Accepted → all (row_tests n w) ≡ true → valid_rows b (rows n w) ≡ Accepted
-      → all_served (rows n w) ts ≡ Err why → checked b ts n w ≡ Err why
-  target_refused why e f g h = counted e f ∙ ap₂ (λ a c. first_of (a ∷ c ∷ [])) g h
+      → all_served (rows n w) ts ≡ Err why → Checks b ts n w (Err why)
+  target_refused why e f g h = sym (counted e f ∙ ap₂ (λ a c. first_of (a ∷ c ∷ [])) g h)
 
   pub accepted : admitted b ts ≡ Accepted → all (row_tests n w) ≡ true → valid_rows b (rows n w) ≡ Accepted
-      → all_served (rows n w) ts ≡ Accepted → checked b ts n w ≡ Accepted
-  accepted e f g h = counted e f ∙ ap₂ (λ a c. first_of (a ∷ c ∷ [])) g h
+      → all_served (rows n w) ts ≡ Accepted → Checks b ts n w Accepted
+  accepted e f g h = sym (counted e f ∙ ap₂ (λ a c. first_of (a ∷ c ∷ [])) g h)
 
 -- as the check, then the input width
 module _ (b : ℕ) (ts : List ℤ) (n : ℕ) (w : List ℕ) (input : ℕ) where
-  measured : checked b ts n w ≡ Accepted → sized b ts n w input ≡ first_of (input_width input ∷ [])
+  measured : Checks b ts n w Accepted → sized b ts n w input ≡ first_of (input_width input ∷ [])
   unfolding sized checked
-  measured e = passes_on (check_order b ts n w) (input_width input ∷ []) (checked b ts n w) refl e
+  measured e = passes_on (check_order b ts n w) (input_width input ∷ []) (checked b ts n w) refl (sym e)
 
-  pub graph_refused : (why : Refusal) → checked b ts n w ≡ Err why → sized b ts n w input ≡ Err why
+  pub graph_refused : (why : Refusal) → Checks b ts n w (Err why) → ChecksWidth b ts n w input (Err why)
   unfolding sized checked
-  graph_refused why e = sym (stops_at (check_order b ts n w) (input_width input ∷ []) (checked b ts n w) why refl e) ∙ e
+  graph_refused why e = e ∙ stops_at (check_order b ts n w) (input_width input ∷ []) (checked b ts n w) why refl (sym e)
 
-  pub width_refused : checked b ts n w ≡ Accepted → all (width_tests input) ≡ false → sized b ts n w input ≡ Err no.Width
-  width_refused e f = measured e ∙ stops no.Width (width_tests input) [] f
+  pub width_refused : Checks b ts n w Accepted → all (width_tests input) ≡ false → ChecksWidth b ts n w input (Err no.Width)
+  width_refused e f = sym (measured e ∙ stops no.Width (width_tests input) [] f)
 
-  pub width_accepted : checked b ts n w ≡ Accepted → all (width_tests input) ≡ true → sized b ts n w input ≡ Accepted
-  width_accepted e f = measured e ∙ passes no.Width (width_tests input) [] f
+  pub width_accepted : Checks b ts n w Accepted → all (width_tests input) ≡ true → ChecksWidth b ts n w input Accepted
+  width_accepted e f = sym (measured e ∙ passes no.Width (width_tests input) [] f)

@@ -8,10 +8,10 @@ ghost use Rattle.meaning.specs.Limits.{most_targets};
 ghost use Rattle.meaning.specs.declared.Refusal.TheVariants.{Unserved};
 ghost use Rattle.meaning.specs.Basics.{has};
 ghost use Rattle.meaning.specs.Graph.{rows, is_served};
-ghost use Rattle.meaning.specs.Refusals.{Accepted, need_each, valid_rows, all_served, checked, sized};
+ghost use Rattle.meaning.specs.Refusals.{Accepted, need_each, valid_rows, all_served};
 ghost use Rattle.meaning.specs.Calls.{Checks, ChecksWidth};
 
-use meaning::{LEAST_WIDTH, MOST_WIDTH, Refusal};
+use meaning::{LEAST_WIDTH, MOST_ROWS, MOST_WIDTH, Refusal};
 use rows::Rows;
 
 // Refusal 6 with the first row that is not valid.
@@ -47,19 +47,22 @@ fn each_served(ts: &[i32], values: &[u32]) -> Result<(), Refusal>
     Ok(())
 }
 
-// The same by the rows of a graph.
+// The same by the rows of a graph. Their values are written in place: an `ArrayVec` handed back is moved whole, which counts where rows are few.
 fn all_served(ts: &[i32], graph: Rows) -> Result<(), Refusal>
     requires { length ts.now ≤ most_targets }
     ensures { result ≡ all_served (rows graph.entry.count graph.entry.words.now) ts.now }
 {
-    each_served(ts, graph.values().as_slice())
+    let mut values = [0u32; MOST_ROWS];
+    rows::values(graph.count, graph.words, &mut values);
+    each_served(ts, &values[..graph.count])
 }
 
 // The rows of a graph that passes the check. Refusals 1, 2, 3, 5, 6 and 7. Words beyond the rows are ignored.
 #[tactic(auto, using(crate::proofs::Stages::admits_bits, crate::proofs::Stages::admits_list, crate::proofs::Stages::list_refused, crate::proofs::Stages::count_refused, crate::proofs::Stages::row_refused, crate::proofs::Stages::target_refused, crate::proofs::Stages::accepted))]
 pub fn accept<'a>(b: u32, ts: &[i32], n: usize, words: &'a [u32]) -> Result<Rows<'a>, Refusal>
-    ensures rows { IfOk result (λ graph. (graph.count ≡ n) × (graph.words.now ≡ words.now) × (checked b ts.now n words.now ≡ Accepted)) }
-    ensures refusal { IfErr result (λ why. checked b ts.now n words.now ≡ Err why) }
+    ensures rows { IfOk result (λ graph. (graph.count ≡ n) × (graph.words.now ≡ words.now) × Checks b ts.now n words.now Accepted) }
+    ensures lent { IfOk result (λ graph. graph.words ≡ words.entry) }
+    ensures refusal { IfErr result (λ why. Checks b ts.now n words.now (Err why)) }
 {
     constants::admit(b, ts)?;
     let graph = Rows::of(n, words).ok_or(Refusal::RowCount)?;
@@ -77,8 +80,9 @@ pub fn accept_width<'a>(
     words: &'a [u32],
     input: u32,
 ) -> Result<Rows<'a>, Refusal>
-    ensures rows { IfOk result (λ graph. (graph.count ≡ n) × (graph.words.now ≡ words.now) × (sized b ts.now n words.now input ≡ Accepted)) }
-    ensures refusal { IfErr result (λ why. sized b ts.now n words.now input ≡ Err why) }
+    ensures rows { IfOk result (λ graph. (graph.count ≡ n) × (graph.words.now ≡ words.now) × ChecksWidth b ts.now n words.now input Accepted) }
+    ensures lent { IfOk result (λ graph. graph.words ≡ words.entry) }
+    ensures refusal { IfErr result (λ why. ChecksWidth b ts.now n words.now input (Err why)) }
 {
     let graph = accept(b, ts, n, words)?;
     if !arith::within(input as usize, LEAST_WIDTH, MOST_WIDTH) {

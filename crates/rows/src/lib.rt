@@ -93,6 +93,7 @@ impl<'a> Rows<'a> {
     pub fn of(count: usize, words: &'a [u32]) -> Option<Rows<'a>>
         ensures there { is_some result ≡ all (row_tests count words.now) }
         ensures those { IfSome result (λ r. (r.count ≡ count) × (r.words.now ≡ words.now)) }
+        ensures lent { IfSome result (λ r. r.words ≡ words.entry) }
     {
         if within(count, words) {
             Some(Rows { words, count })

@@ -12,6 +12,7 @@ use Rattle.meaning.specs.declared.Refusal.TheVariants as no
 use Rattle.meaning.specs.Basics.{over, over_at}
 use Rattle.meaning.specs.Graph.{row_after, rows, values}
 use Rattle.meaning.specs.Widths.{row_width, output_width, widths}
+use Rattle.meaning.specs.Calls.{ChecksWidth}
 use Rattle.meaning.specs.Refusals.{Answer, Accepted, Done, sized_order, sized, measured, widths_written}
 use Rattle.laws.proofs.Graph.Rows.{length_rows, length_values, value_is}
 use Rattle.laws.proofs.Refusals.Stages.{stage_handed, buffer_refused, all_written}
@@ -33,11 +34,11 @@ widths_over input n w items old e f =
     rw (← same, e) refl
 
 -- of an accepted graph
-pub narrow_input : (b : ℕ) (ts : List ℤ) (n : ℕ) (w : List ℕ) (input : ℕ) → sized b ts n w input ≡ Accepted → input ≤ 32
-narrow_input b ts n w input e = (sized_of b ts n w input e).width.1
+pub narrow_input : (b : ℕ) (ts : List ℤ) (n : ℕ) (w : List ℕ) (input : ℕ) → ChecksWidth b ts n w input Accepted → input ≤ 32
+narrow_input b ts n w input e = (sized_of b ts n w input (sym e)).width.1
 
-pub room_for_both : (b : ℕ) (ts : List ℤ) (n : ℕ) (w : List ℕ) (input : ℕ) → sized b ts n w input ≡ Accepted → n + length ts ≤ 144
-room_for_both b ts n w input e = let g = (sized_of b ts n w input e).good in let a = g.admits.list in let r = g.room in omega arith
+pub room_for_both : (b : ℕ) (ts : List ℤ) (n : ℕ) (w : List ℕ) (input : ℕ) → ChecksWidth b ts n w input Accepted → n + length ts ≤ 144
+room_for_both b ts n w input e = let g = (sized_of b ts n w input (sym e)).good in let a = g.admits.list in let r = g.room in omega arith
 
 module _ (b : ℕ) (ts : List ℤ) (n : ℕ) (w : List ℕ) (input : ℕ) (old : List ℕ) where
   abbrev told : Answer
@@ -46,20 +47,20 @@ module _ (b : ℕ) (ts : List ℤ) (n : ℕ) (w : List ℕ) (input : ℕ) (old :
   abbrev written : List ℕ
   written = widths_written b ts n w input (length old)
 
-  pub graph_refused : (q : Answer) (why : Refusal) → sized b ts n w input ≡ Err why → IsErrAnd q (λ x. x ≡ why) → Done told written q old old
+  pub graph_refused : (q : Answer) (why : Refusal) → ChecksWidth b ts n w input (Err why) → IsErrAnd q (λ x. x ≡ why) → Done told written q old old
   unfolding sized measured widths_written
-  graph_refused q why e h = stage_handed (sized_order b ts n w input) (n + length ts) _ old (sized b ts n w input) refl q why e h
+  graph_refused q why e h = stage_handed (sized_order b ts n w input) (n + length ts) _ old (sized b ts n w input) refl q why (sym e) h
 
-  pub short_buffer : sized b ts n w input ≡ Accepted → length old < n + length ts → Done told written (Err no.Buffer) old old
+  pub short_buffer : ChecksWidth b ts n w input Accepted → length old < n + length ts → Done told written (Err no.Buffer) old old
   unfolding sized measured widths_written
-  short_buffer e h = buffer_refused (sized_order b ts n w input) (n + length ts) _ old (sized b ts n w input) refl e h
+  short_buffer e h = buffer_refused (sized_order b ts n w input) (n + length ts) _ old (sized b ts n w input) refl (sym e) h
 
-  pub both_written : (count : ℕ) (words rest new : List ℕ) → (count ≡ n) × (words ≡ w) × (sized b ts n w input ≡ Accepted) → n + length ts ≤ length old
+  pub both_written : (count : ℕ) (words rest new : List ℕ) → (count ≡ n) × (words ≡ w) × ChecksWidth b ts n w input Accepted → n + length ts ≤ length old
       → rest ≡ over (map (row_width input) (values (rows count words))) old → new ≡ over_at n (map (output_width input) ts) rest → Done told written Accepted old new
   unfolding sized measured widths_written widths
   both_written count words rest new g h e f =
       let xs = values (rows n w) in
-      all_written (sized_order b ts n w input) (n + length ts) _ old (sized b ts n w input) refl new g.2 h
+      all_written (sized_order b ts n w input) (n + length ts) _ old (sized b ts n w input) refl new (sym g.2) h
       (f
       ∙ ap (over_at n (map (output_width input) ts)) (e ∙ ap₂ (λ k v. over (map (row_width input) (values (rows k v))) old) g.0 g.1)
       ∙ over_part (map (row_width input) xs) (map (output_width input) ts) old n (length-map xs (row_width input) ∙ length_values (rows n w) ∙ length_rows n w))
