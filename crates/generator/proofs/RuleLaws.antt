@@ -90,15 +90,15 @@ served_rows L before cs c s i p e =
     }
 
 module _ (L : ℕ) (before : List Row) (cs : List ℕ) (c : ℕ) (rest : List ℕ) (on : rule_b L before cs ≡ rule_b L before (c ∷ rest))
-    (k : ℕ) (h : 2 ^ (L - 1) ≤ k + 1) (r : Trials) (e : r ≡ chosen_in L (ready before) c k) where
+    (k : ℕ) (r : Trials) (e : r ≡ chosen_in L (ready before) c k) where
   pub picked_at : (s : ℕ) → Memᴰ c cs → r.value ≡ Some s → Serves L before cs c s
   picked_at s i f =
       let g = sym (ap (λ (t : Trials). t.value) e) ∙ f in
-      served_rows L before cs c s i (at_served L before c k h s g) (on ∙ b_at L before c k h s g rest)
+      served_rows L before cs c s i (at_served L before c k s g) (on ∙ b_at L before c k s g rest)
 
   -- as many trials as there are candidates find nothing
-  pub picked_none : r.value ≡ None → rule_b L before cs ≡ rule_b L before rest
-  picked_none f = on ∙ b_nothing L before c k h rest (sym (ap (λ (t : Trials). t.value) e) ∙ f)
+  pub picked_none : 2 ^ (L - 1) ≤ k + 1 → r.value ≡ None → rule_b L before cs ≡ rule_b L before rest
+  picked_none h f = on ∙ b_nothing L before c k h rest (sym (ap (λ (t : Trials). t.value) e) ∙ f)
 
 -- 65535 trials are all the candidates that the long map has
 pub ceiling : (L : ℕ) → L ≤ long_limit → 2 ^ (L - 1) ≤ 65535 + 1

@@ -1,16 +1,17 @@
 -- The candidates in their order: the first k of them, and what a search among them finds. Assumes nothing.
-use mathlib.Core.Path.{◌≡◌, refl, ap, ◌∙◌}
+use mathlib.Core.Path.{◌≡◌, refl, sym, ap, ◌∙◌}
 use mathlib.Core.Bool.{Bool, true, false}
 use mathlib.Core.List.{List, [], ◌∷◌, map}
 use Prim.Native.Nat.{ℕ, zero, suc, ◌+◌, ◌-◌, ◌*◌, ◌/◌, ◌%◌, ◌^◌, ◌≤◌, ◌<◌, min}
 use native.Mathlib.Nat.{pow-succ'}
 use native.Mathlib.Omega.{arith}
-use lib.ListN.{length, get_or, take}
-use Rattle.std.proofs.lemmas.List.{length-map}
+use lib.ListN.{length, get_or, take, drop}
+use Rattle.std.proofs.lemmas.List.{length-map, take-append-drop}
 use lib.Pow.{pow_pos}
 use Rattle.std.specs.Prelude.{Some, None, find}
 use Rattle.std.specs.List.{position_or_len, slice_get}
-use Rattle.std.proofs.lemmas.List.Folds.{find_at}
+use Rattle.std.specs.Option.{option_or}
+use Rattle.std.proofs.lemmas.List.Folds.{find_at, find-append}
 use Rattle.std.proofs.lemmas.List.Sums.{position_or_len_is}
 use Rattle.std.proofs.lemmas.Option.{slice_get_past, slice_get-get_or}
 use Rattle.meaning.specs.Basics.{up_from}
@@ -49,6 +50,13 @@ unfolding candidates
 candidates_all k L h = candidates_take k L (2 ^ (L - 1)) (omega arith)
 
 -- ---- a search among the first candidates
+
+-- what is found among the first k is what is found
+pub first_take : {A : Type 0} (t : A → Bool) (k : ℕ) (xs : List A) (a : A) → find t (take k xs) ≡ Some a → find t xs ≡ Some a
+first_take t k xs a e =
+    ap (find t) (sym (take-append-drop k xs))
+    ∙ find-append t (take k xs) (drop k xs)
+    ∙ ap (λ o. option_or o (find t (drop k xs))) e
 
 -- the odd numbers from 3 on below 2 * e
 abbrev pub below : ℕ → List ℕ

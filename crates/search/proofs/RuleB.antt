@@ -17,7 +17,7 @@ use Rattle.laws.proofs.Lists.Tests.{both_of}
 use Rattle.laws.proofs.Distance.Reach.{reach_is, reached_odd}
 use Rattle.laws.proofs.Generator.Rules.{serve_got}
 use Rattle.search.specs.Choices.{chosen_in}
-use Rattle.search.proofs.Candidates.{candidates_all}
+use Rattle.search.proofs.Candidates.{candidates_all, first_take}
 
 -- ---- over a list of constants
 
@@ -62,27 +62,29 @@ serve_by L before c s rows o e =
     let (y, e3, e4) = map_from _ _ _ e2 in
     record { odd = o; first = x; second = y; first_is = e1; second_is = e3; both_are = e ∙ sym (ap Some e4) }
 
--- k trials are enough for all candidates
-module _ (L : ℕ) (before : List Row) (c k : ℕ) (h : 2 ^ (L - 1) ≤ k + 1) where
-  choice_is : (chosen_in L (ready before) c k).value ≡ choice L (ready before) c
+module _ (L : ℕ) (before : List Row) (c k : ℕ) where
+  -- this constant has no choice among all candidates, for which k trials are enough: the others decide
+  pub b_nothing : 2 ^ (L - 1) ≤ k + 1 → (cs : List ℕ) → (chosen_in L (ready before) c k).value ≡ None → rule_b L before (c ∷ cs) ≡ rule_b L before cs
   unfolding chosen_in
-  choice_is = ap (find (does_serve L (ready before) c)) (candidates_all k L h)
-
-  -- this constant has no choice: the others decide
-  pub b_nothing : (cs : List ℕ) → (chosen_in L (ready before) c k).value ≡ None → rule_b L before (c ∷ cs) ≡ rule_b L before cs
-  b_nothing cs e =
-      b_step L before c cs ∙ ap (λ (o : Option ℕ). option_or (option_and_then (λ s. serve L before (c, s)) o) (rule_b L before cs)) (sym choice_is ∙ e)
+  b_nothing h cs e =
+      let none : choice L (ready before) c ≡ None = ap (find (does_serve L (ready before) c)) (sym (candidates_all k L h)) ∙ e in
+      b_step L before c cs ∙ ap (λ (o : Option ℕ). option_or (option_and_then (λ s. serve L before (c, s)) o) (rule_b L before cs)) none
 
   module _ (s : ℕ) (e : (chosen_in L (ready before) c k).value ≡ Some s) where
+    -- what k trials find is the choice
+    choice_is : choice L (ready before) c ≡ Some s
+    unfolding chosen_in
+    choice_is = first_take (does_serve L (ready before) c) k (candidates L) s e
+
     its_rows : (rows : List Row) × (serve L before (c, s) ≡ Some rows)
-    its_rows = found (serve L before (c, s)) (subst⁻¹ T (serve_got L before c s) (find_from (does_serve L (ready before) c) (candidates L) s (sym choice_is ∙ e)).1)
+    its_rows = found (serve L before (c, s)) (subst⁻¹ T (serve_got L before c s) (find_from (does_serve L (ready before) c) (candidates L) s choice_is).1)
 
     -- this constant has one: by the rows of s and then of c
     pub b_at : (cs : List ℕ) → rule_b L before (c ∷ cs) ≡ serve L before (c, s)
     b_at cs =
         let q = its_rows.1 in
         b_step L before c cs
-        ∙ ap (λ (o : Option ℕ). option_or (option_and_then (λ s. serve L before (c, s)) o) (rule_b L before cs)) (sym choice_is ∙ e)
+        ∙ ap (λ (o : Option ℕ). option_or (option_and_then (λ s. serve L before (c, s)) o) (rule_b L before cs)) choice_is
         ∙ ap (λ (o : Option (List Row)). option_or o (rule_b L before cs)) q
         ∙ sym q
 
@@ -90,7 +92,7 @@ module _ (L : ℕ) (before : List Row) (c k : ℕ) (h : 2 ^ (L - 1) ≤ k + 1) w
     pub at_served : Served L before c s
     unfolding does_serve
     at_served =
-        let t = (find_from (does_serve L (ready before) c) (candidates L) s (sym choice_is ∙ e)).1 in
+        let t = (find_from (does_serve L (ready before) c) (candidates L) s choice_is).1 in
         let (a, b) = both_of (does_reach L (ready before) s) (does_reach L (s ∷ ready before) c) t in
         let (rows, q) = its_rows in
         serve_by L before c s rows (reached_odd L (ready before) s ((reach_is L (ready before) s).0 a)) q

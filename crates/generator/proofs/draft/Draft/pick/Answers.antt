@@ -45,15 +45,15 @@ pub returns-in-Some : goal.returns-in-Some
 returns-in-Some c before e =
     let a = c.args in
     let g = goal.at.returns-in-Some c in
-    picked_at a.self.now.limit before a.wanted.now _ (drop (c.loop-c.c-index + 1) a.wanted.now) (next g.In-loop-c before e) 65535 (ceiling a.self.now.limit c.requires.limit)
+    picked_at a.self.now.limit before a.wanted.now _ (drop (c.loop-c.c-index + 1) a.wanted.now) (next g.In-loop-c before e) 65535
     c.choose-trials.result (chosen g.After-choose-trials before e) _ (member g.In-loop-c) c.in-Some.is
 
 pub loop-c-preserved : goal.loop-c-preserved
 loop-c-preserved c before e =
     let a = c.args in
     let g = goal.at.loop-c-preserved c in
-    picked_none a.self.now.limit before a.wanted.now _ (drop (c.loop-c.c-index + 1) a.wanted.now) (next g.In-loop-c before e) 65535 (ceiling a.self.now.limit c.requires.limit)
-    c.choose-trials.result (chosen g.After-choose-trials before e) c.in_default.is
+    picked_none a.self.now.limit before a.wanted.now _ (drop (c.loop-c.c-index + 1) a.wanted.now) (next g.In-loop-c before e) 65535
+    c.choose-trials.result (chosen g.After-choose-trials before e) (ceiling a.self.now.limit c.requires.limit) c.in_default.is
 
 pub returns : goal.returns
 returns c before e =
