@@ -13,10 +13,10 @@ use Rattle.meaning.specs.Generator as rule
 use Rattle.laws.proofs.Generator.Remaining.{remaining_in}
 use Rattle.search.specs.declared.ready.Ready.{Ready}
 use Rattle.search.specs.Held.{listed, Started}
-use Rattle.search.specs.Marks.{State, Holds, Wide}
+use Rattle.search.specs.Marks.{long_limit, State, Holds, Wide}
 use Rattle.generator.specs.Growth.{drawn_rows, Servable, Begun, Open, Grown}
 use Rattle.generator.specs.declared.draft.Draft.{Draft}
-use Rattle.generator.specs.Rule.{turned, Drawable, Turning}
+use Rattle.generator.specs.Rule.{AllServable, turned, Turning}
 use Rattle.generator.proofs.DraftLaws.{grown_none, grown_then, drawn_more, open_on}
 use lib.Pow.{pow_mono}
 use Rattle.meaning.specs.Distance.{does_reach}
@@ -77,13 +77,10 @@ pub record Turned (L : ℕ) (cs : List ℕ) (first : Draft) (k : ℕ) (d : Draft
   pub rest : (turns L (length cs - k) cs (record { rows = made })).rows ≡ turned L cs
   pub few : length made ≤ most_rows
 
-module _ {L : ℕ} {map lent cs : List ℕ} {first : Draft} (w : Drawable L map lent cs) (b : Begun L lent first) where
-  opened : Open first most_rows
-  opened = started_open b w.words
-
+module _ {L : ℕ} {lent cs : List ℕ} {first : Draft} (w : row_length * most_rows ≤ length lent) (b : Begun L lent first) where
   pub turned_start : Turned L cs first 0 first
   turned_start =
-      record { made = []; grown = grown_none _ opened; rest = ap (λ (j : ℕ). (turns L j cs (record { rows = [] })).rows) (omega arith); few = omega arith }
+      record { made = []; grown = grown_none _ (started_open b w); rest = ap (λ (j : ℕ). (turns L j cs (record { rows = [] })).rows) (omega arith); few = omega arith }
 
   module _ {k : ℕ} {d : Draft} (t : Turned L cs first k d) where
     same_limit : d.limit ≡ L
@@ -93,13 +90,13 @@ module _ {L : ℕ} {map lent cs : List ℕ} {first : Draft} (w : Drawable L map 
     its_rows : drawn_rows d ≡ t.made
     unfolding rows
     its_rows =
-        drawn_more most_rows t.few opened t.grown
+        drawn_more most_rows t.few (started_open b w) t.grown
         ∙ ap (λ (n : ℕ). rows n first.out.now ++ t.made) (let e : first.set.count - 1 ≡ 0 = omega (arith, b.started.one) in e)
 
     its_list : listed d.set ≡ ready (drawn_rows d)
-    its_list = (open_on most_rows 0 (omega (arith, t.few)) opened t.grown).same
+    its_list = (open_on most_rows 0 (omega (arith, t.few)) (started_open b w) t.grown).same
 
-    module _ (h : k < length cs) {left : List ℕ} (e : left ≡ remaining (listed d.set) cs) where
+    module _ (h : k < length cs) (f : length (turned L cs) ≤ most_rows) {left : List ℕ} (e : left ≡ remaining (listed d.set) cs) where
       abbrev new : List Row
       new = added d.limit (drawn_rows d) left
 
@@ -113,20 +110,24 @@ module _ {L : ℕ} {map lent cs : List ℕ} {first : Draft} (w : Drawable L map 
           ∙ t.rest
 
       grows : length t.made + length new ≤ most_rows
-      grows = omega (arith, length-append t.made new, turns_grow L (length cs - (k + 1)) cs (record { rows = t.made ++ new }), ap length next_is, w.few)
+      grows = omega (arith, length-append t.made new, turns_grow L (length cs - (k + 1)) cs (record { rows = t.made ++ new }), ap length next_is)
 
-      -- what is left is servable, and the next turn has room
-      pub turned_open : Turning d left
-      turned_open =
+      -- the next turn has room
+      pub turned_room : Open d (length (added d.limit (drawn_rows d) left))
+      turned_room = open_on most_rows (length new) grows (started_open b w) t.grown
+
+      -- and may begin, where the constants can be served
+      pub turned_open : L ≤ long_limit → AllServable L cs → Turning d left
+      turned_open m a =
           record {
-            room = open_on most_rows (length new) grows opened t.grown;
-            limit = omega (arith, same_limit, w.most);
-            servable = λ c i. subst⁻¹ (λ l. Servable l c) same_limit (w.servable c (remaining_in _ _ c (subst (Memᴰ c) e i)).0);
+            room = turned_room;
+            limit = omega (arith, same_limit);
+            servable = λ c i. subst⁻¹ (λ l. Servable l c) same_limit (a c (remaining_in _ _ c (subst (Memᴰ c) e i)).0);
           }
 
       pub turned_more : {next : Draft} → Grown d new next → Turned L cs first (k + 1) next
       turned_more g =
-          record { made = t.made ++ new; grown = grown_then _ opened t.grown g; rest = next_is; few = omega (arith, grows, length-append t.made new) }
+          record { made = t.made ++ new; grown = grown_then _ (started_open b w) t.grown g; rest = next_is; few = omega (arith, grows, length-append t.made new) }
 
     pub turned_end : length cs ≤ k → Grown first (turned L cs) d
     turned_end h =
@@ -134,10 +135,9 @@ module _ {L : ℕ} {map lent cs : List ℕ} {first : Draft} (w : Drawable L map 
         subst (λ (xs : List Row). Grown first xs d) (sym (ap (λ (x : rule.Draft). x.rows) e) ∙ t.rest) t.grown
 
 -- all rows stand from the front on
-pub from_front : {L : ℕ} {lent : List ℕ} {first d : Draft} {xs : List Row} → Begun L lent first → Grown first xs d
+pub from_front : {lent : List ℕ} {first d : Draft} {xs : List Row} → Started first.set → first.out.now ≡ lent → Grown first xs d
     → (d.set.count ≡ length xs + 1) × (d.out.now ≡ over (flat xs) lent)
 unfolding over_at
-from_front {first = first} {xs = xs} b g =
-    let s = b.started in
+from_front {first = first} {xs = xs} s w g =
     let e : row_length * (first.set.count - 1) ≡ 0 = omega (arith, s.one) in
-    (omega (arith, g.count, s.one), g.writes ∙ ap₂ (λ (n : ℕ) (l : List ℕ). over_at n (flat xs) l) e b.words)
+    (omega (arith, g.count, s.one), g.writes ∙ ap₂ (λ (n : ℕ) (l : List ℕ). over_at n (flat xs) l) e w)
