@@ -199,7 +199,7 @@ rows_written b ts room = given (drawn b ts room) (flat (generated b ts))
 unfoldable pub distance_told : ℕ → List ℕ → ℕ → Result Far Refusal
 distance_told b vals c = told (first_of (distance_order b vals c)) (distance (limit b) vals c)
 
--- ---- a constant alone: its parts in three words, and its canonic form in two. Err by 4 only
+-- ---- a constant alone: its parts in three words, and its canonic form in two. Refused by 4 only
 
 unfoldable pub apart_told : ℕ → Answer
 apart_told room = buffer 3 room
