@@ -4,10 +4,11 @@ use mathlib.Core.List.{append-nil}
 use lib.ListN.{drop_of_length-le}
 use lib.Seq.{take_all}
 use borrow.Author.Tests.{eq-eqb, ne_eqb}
+use Rattle.std.proofs.lemmas.Bool.Decides.{nat_tests}
 use Rattle.std.proofs.lemmas.List.{take-append-le}
 use Rattle.arrayvec.specs.ArrayVec.{ArrayVec}
 use Rattle.meaning.specs.Text.{stands, number_at}
-use Rattle.meaning.specs.Forms.{Line, front, read_number, read_byte, line_at}
+use Rattle.meaning.specs.Forms.{Line, taken, front, read_number, read_byte, line_at}
 use Rattle.laws.proofs.Text.Numerals.{rest_cons}
 use Rattle.text.specs.Held.{behind}
 
@@ -35,6 +36,13 @@ module _ (room : ℕ) where
   -- nothing more
   pub behind_all : (before : List ℤ) (p : ℕ) → length before ≤ room → behind room before (Some ([], p)) ≡ Some (record { items = before }, p)
   behind_all before p h = ap (λ xs. Some (record { items = xs }, p)) (ap (take room) (append-nil before) ∙ take_all room before h)
+
+-- a form's byte that takes a number is #, and one that takes none is another
+pub takes : {n : ℕ} (c : ℕ) → n ≡ taken c → 0 < n → c ≡ 35
+takes c e h = grind (arith, nat_tests)
+
+pub takes_none : {n : ℕ} (c : ℕ) → n ≡ taken c → n ≤ 0 → c ≡ 35 → ⊥
+takes_none c e h k = grind (arith, nat_tests)
 
 module _ (s form : List ℕ) (at i : ℕ) where
   abbrev rest : Line (List ℤ)

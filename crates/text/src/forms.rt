@@ -1,6 +1,6 @@
 // A line read by its form: a text in which each # stands for a number.
 ghost use Rattle.std.specs.Prelude.{◌≡◌};
-ghost use Rattle.meaning.specs.Forms.{line_at};
+ghost use Rattle.meaning.specs.Forms.{taken as forms_taken, line_at};
 ghost use Rattle.text.specs.Held.{held};
 
 use crate::{decimal, is};
@@ -9,6 +9,16 @@ use arrayvec::ArrayVec;
 // How many of a line's numbers are kept.
 pub const MOST_NUMBERS: usize = 16;
 
+// How many numbers a form's byte takes.
+pub fn taken(c: u8) -> usize
+    ensures { result ≡ forms_taken c }
+{
+    if c == b'#' {
+        return 1;
+    }
+    0
+}
+
 // The numbers of a form's line at a place, those that have room, and where the next line begins.
 pub fn line_at(s: &[u8], from: usize, form: &[u8]) -> Option<(ArrayVec<i32, MOST_NUMBERS>, usize)>
     ensures { result ≡ held MOST_NUMBERS (line_at form.now s.now from) }
@@ -16,7 +26,7 @@ pub fn line_at(s: &[u8], from: usize, form: &[u8]) -> Option<(ArrayVec<i32, MOST
     let mut numbers = ArrayVec::new();
     let mut at = from;
     for &c in form {
-        if c == b'#' {
+        if taken(c) > 0 {
             let (z, next) = decimal::number(s, at)?;
             // One that has no room is let go.
             let _ = numbers.try_push(z);
