@@ -11,7 +11,7 @@ use arrayvec::ArrayVec;
 use meaning::{BITS_FORM, BY_ROW, BY_WIDTH, Head, INPUT_FORM, JOB_BYTES, JOB_TARGETS, Refusal};
 
 // What a job asks for.
-#[derive(Drop)]
+#[derive(Clone, Drop)]
 pub struct Job {
     pub head: Head,
     pub targets: ArrayVec<i32, JOB_TARGETS>,
