@@ -1,12 +1,12 @@
 -- What the call prints: nothing into a short buffer, else a job's text over the front. Assumes nothing.
-use mathlib.Core.Path.{◌≡◌, sym, ap, ◌∙◌}
+use mathlib.Core.Path.{◌≡◌, refl, sym, ap, ◌∙◌}
 use Rattle.std.specs.Prelude.{Ok, Err}
 use mathlib.Core.List.{List, ◌++◌}
 use Prim.Native.Nat.{ℕ, ◌+◌, ◌≤◌, ◌<◌}
 use native.Mathlib.Omega.{arith}
 use borrow.Author.Tests.{le-leb, lt-leb}
 use lib.ListN.{length, drop}
-use lib.Seq.{sets-eq}
+use lib.Seq.{sets, sets-eq}
 use Rattle.meaning.specs.declared.Refusal.TheVariants as no
 use Rattle.meaning.specs.Basics.{over}
 use Rattle.meaning.specs.Listing.{job_text, printed_told, text_written, text_room}
@@ -19,16 +19,19 @@ module _ (s : List ℕ) where
   unfolding printed_told text_written
   print_short old h = record { answers = rw (lt-leb _ _ h); writes = rw (lt-leb _ _ h) (sym (over_none old)) }
 
-  pub print_text : (text before now : List ℕ) (n : ℕ) → text_room ≤ length before → job_text s ≡ text → Wrote before 0 text now n
-      → Done (printed_told s (length before)) (text_written s (length before)) (Ok n) before now
-  unfolding printed_told text_written over
-  print_text text before now n h e w =
-      record {
-        answers = rw (le-leb text_room (length before) h) (ap Ok (w.place ∙ zero_front (length text) ∙ ap length (sym e)));
-        writes =
-            rw (le-leb text_room (length before) h)
-            (w.stored ∙ sets-eq text before 0 w.fits ∙ ap (λ (j : ℕ). text ++ drop j before) (zero_front (length text)) ∙ ap (λ (t : List ℕ). t ++ drop (length t) before) (sym e));
-      }
-    where
-      zero_front : (j : ℕ) → 0 + j ≡ j
-      zero_front j = omega arith
+  -- what is told and written where there is room
+  pub told_is : (room : ℕ) → text_room ≤ room → printed_told s room ≡ Ok (length (job_text s))
+  unfolding printed_told
+  told_is room h = rw (le-leb text_room room h) refl
+
+  pub written_is : (before : List ℕ) → text_room ≤ length before → over (text_written s (length before)) before ≡ job_text s ++ drop (length (job_text s)) before
+  unfolding text_written over
+  written_is before h = rw (le-leb text_room (length before) h) refl
+
+-- a text from the front
+pub front_is : (text before : List ℕ) → 0 + length text ≤ length before → sets before 0 text ≡ text ++ drop (length text) before
+front_is text before h = let k : 0 + length text ≡ length text = omega arith in sets-eq text before 0 h ∙ ap (λ j. text ++ drop j before) k
+
+pub print_text : (s text before now : List ℕ) (n : ℕ) → text_room ≤ length before → job_text s ≡ text → Wrote before 0 text now n
+    → Done (printed_told s (length before)) (text_written s (length before)) (Ok n) before now
+print_text s text before now n h e w = grind (arith, told_is, written_is, front_is)

@@ -20,6 +20,7 @@ fn list(s: &[u8], out: &mut [u8]) -> Result<usize, Refusal>
 }
 
 // What is printed for a job's text, from the front of out.
+#[tactic(auto, using(crate::proofs::Printing::told_is, crate::proofs::Printing::written_is, crate::proofs::Printing::front_is))]
 pub fn answer(s: &[u8], out: &mut [u8]) -> Result<usize, Refusal>
     ensures { Prints s.now result out.old out.new }
 {

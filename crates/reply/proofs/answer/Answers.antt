@@ -9,8 +9,3 @@ returns-then-out-lt-TEXT_ROOM c = print_short _ _ (omega arith)
 
 pub returns-in-Ok : goal.returns-in-Ok
 returns-in-Ok c = print_text c.args.s.now _ _ _ _ (omega arith) refl c.in-Ok.ensures
-
-pub returns-in-Err : goal.returns-in-Err
-returns-in-Err c =
-    let (e, same) = c.in-Err.ensures in
-    print_text c.args.s.now _ _ _ _ (omega arith) e (rw same at c.refused.ensures)
