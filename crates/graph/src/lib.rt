@@ -11,6 +11,7 @@ ghost use Rattle.meaning.specs.Graph.{rows, is_served};
 ghost use Rattle.meaning.specs.Refusals.{Accepted, need_each, valid_rows, all_served};
 ghost use Rattle.meaning.specs.Calls.{Checks, ChecksWidth};
 
+use arrayvec::ArrayVec;
 use meaning::{LEAST_WIDTH, MOST_ROWS, MOST_WIDTH, Refusal};
 use rows::Rows;
 
@@ -47,14 +48,17 @@ fn each_served(ts: &[i32], values: &[u32]) -> Result<(), Refusal>
     Ok(())
 }
 
-// The same by the rows of a graph. Their values are written in place: an `ArrayVec` handed back is moved whole, which counts where rows are few.
+// The same by the rows of a graph, whose values are held here: one that is handed back is moved.
+#[tactic(auto, using(rows::proofs::Places::values_none, rows::proofs::Places::values_more, rows::proofs::Places::values_room))]
 fn all_served(ts: &[i32], graph: Rows) -> Result<(), Refusal>
     requires { length ts.now ≤ most_targets }
     ensures { result ≡ all_served (rows graph.entry.count graph.entry.words.now) ts.now }
 {
-    let mut values = [0u32; MOST_ROWS];
-    rows::values(graph.count, graph.words, &mut values);
-    each_served(ts, &values[..graph.count])
+    let mut values: ArrayVec<u32, MOST_ROWS> = ArrayVec::new();
+    for i in 0..graph.count {
+        values.push(graph.after(i).value);
+    }
+    each_served(ts, values.as_slice())
 }
 
 // The rows of a graph that passes the check. Refusals 1, 2, 3, 5, 6 and 7. Words beyond the rows are ignored.

@@ -11,7 +11,7 @@ ghost use Rattle.meaning.specs.Calls.{Multiplies};
 ghost use Rattle.products.specs.Worked.{Next, Graph, Made};
 
 use arrayvec::ArrayVec;
-use meaning::{MOST_READY, MOST_ROWS, Refusal};
+use meaning::{MOST_READY, Refusal};
 use rows::Rows;
 
 // The product of the row after i rows, from the products of the indices before it.
@@ -64,17 +64,16 @@ fn write_targets(ts: &[i32], values: &[u32], made: &[i64], out: &mut [i64])
     }
 }
 
-// The targets' products of a graph that serves them, written from the front of `out`. The rows' values are written in place, as in `graph::all_served`.
+// The targets' products of a graph that serves them, written from the front of `out`.
 fn work(graph: Rows, ts: &[i32], x: i32, out: &mut [i64])
     requires valid { Graph (rows graph.count graph.words.now) }
     requires served { T (every (is_served (graph_values (rows graph.count graph.words.now))) ts.now) }
     requires room { length ts.now ≤ length out.old }
     ensures { out.new ≡ over (target_products (rows graph.entry.count graph.entry.words.now) x ts.now) out.old }
 {
-    let mut values = [0u32; MOST_ROWS];
-    rows::values(graph.count, graph.words, &mut values);
+    let values = graph.values();
     let made = products_of(graph, x);
-    write_targets(ts, &values[..graph.count], &made, out);
+    write_targets(ts, &values, &made, out);
 }
 
 // A product for each target. Refusals as check, then 4.
