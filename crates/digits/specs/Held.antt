@@ -5,6 +5,10 @@ use Rattle.meaning.specs.Basics.{zeros}
 use Rattle.meaning.specs.Digits.{Digit, nonzeros, plus_places, minus_places}
 use Rattle.digits.specs.declared.Places.{Places}
 
+-- what stands behind a number's prefixes
+abbrev pub nothing : Prefix
+nothing = record { before = 0; gap = 0; s = 0; value = 0 }
+
 -- an odd number less its lowest digit: the multiple of 4 next to it
 abbrev pub near : ℕ → ℕ
 near n = cond (eqb (n % 4) 3) (n + 1) (n - 1)

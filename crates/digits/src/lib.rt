@@ -1,12 +1,14 @@
 // The canonic form of a number: how many of its digits are nonzero, its prefixes, and the places of its digits.
 #![tactic(auto)]
 
-ghost use Rattle.std.specs.Prelude.{◌≡◌, ◌<◌, length};
+ghost use Rattle.std.specs.Prelude.{◌≡◌, ◌<◌, ◌≤◌, length};
 ghost use Rattle.meaning.specs.Digits.{above as digits_above, canonic, nonzeros, prefixes as digits_prefixes, form_of, minus_places};
 ghost use Rattle.meaning.specs.Calls.{WritesForm};
-ghost use Rattle.digits.specs.Held.{near as held_near, end_sign, last_prefix, places_held};
+ghost use Rattle.few.specs.Listed.{listed};
+ghost use Rattle.digits.specs.Held.{near as held_near, nothing, end_sign, last_prefix, places_held};
 
 use arrayvec::ArrayVec;
+use few::Few;
 use meaning::{Prefix, Refusal};
 
 // A form as two words, the places of its digits 1 and of its digits -1, and how many digits are nonzero.
@@ -69,10 +71,19 @@ fn last_prefix(n: u32) -> Prefix
     }
 }
 
+// What stands behind a number's prefixes.
+const NOTHING: Prefix = Prefix {
+    before: 0,
+    gap: 0,
+    s: 0,
+    value: 0,
+};
+
 // The prefixes of a number, shortest first, each found from the one that it leaves. A number of 32 bits has sixteen at most.
 #[tactic(auto, using(crate::proofs::Laws::peel_start, crate::proofs::Laws::peel_room, crate::proofs::Laws::peel_falls, crate::proofs::Laws::peel_step, crate::proofs::Laws::peel_end))]
-pub fn prefixes_of(n: u32) -> ArrayVec<Prefix, 16>
-    ensures { result.items ≡ digits_prefixes n }
+pub fn prefixes_of(n: u32) -> Few<Prefix, 16>
+    ensures value { result ≡ listed nothing 16 (digits_prefixes n) }
+    ensures fits { result.count ≤ 16 }
 {
     let mut prefixes = ArrayVec::new();
     let mut left = arith::odd_part(u64::from(n)) as u32;
@@ -82,7 +93,7 @@ pub fn prefixes_of(n: u32) -> ArrayVec<Prefix, 16>
         left = last.before;
     }
     prefixes.reverse();
-    prefixes
+    Few::of(&prefixes, NOTHING)
 }
 
 // The places of the digits -1: a word of at most half of n.

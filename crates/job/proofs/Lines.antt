@@ -1,5 +1,5 @@
 -- A job's lines, as a reader meets them: the numbers of the targets' line, one after the other, and what the lines that are read make of the job. Assumes nothing.
-use Rattle.std.proofs.Common.{◌≡◌, refl, ap, ◌∙◌, sym, Bool, true, false, List, [], ◌∷◌, ℕ, zero, suc, ◌+◌, ◌-◌, ◌<◌, ◌≤◌, length, take, ℤ, Some, None, Result, Ok, Err, IsErrAnd, arith}
+use Rattle.std.proofs.Common.{◌≡◌, refl, ap, ◌∙◌, sym, Bool, true, false, List, [], ◌∷◌, ℕ, zero, suc, ◌+◌, ◌-◌, ◌<◌, ◌≤◌, length, take, ℤ, pos, Some, None, Result, Ok, Err, IsErrAnd, arith}
 use lib.Seq.{take_all}
 use Rattle.std.proofs.lemmas.Option.{some_pair_parts}
 use Rattle.arrayvec.specs.ArrayVec.{ArrayVec}
@@ -10,10 +10,11 @@ use Rattle.std.proofs.lemmas.Bool.Decides.{nat_tests}
 use Rattle.meaning.specs.Text.{bytes, stands, number_at}
 use Rattle.meaning.specs.Forms.{Line, front, line_at, bits_form, input_form}
 use Rattle.meaning.specs.Job as meaning
-use Rattle.meaning.specs.Job.{most_bytes, Asked, asks, malformed, only, report_at, numbers, targets_at, job_of}
+use Rattle.meaning.specs.Job.{most_bytes, most_job_targets, Asked, asks, malformed, only, report_at, numbers, targets_at, job_of}
 use Rattle.laws.proofs.Text.Asked.{most_targets_lem}
 use Rattle.laws.proofs.Text.Numerals.{no_some}
 use Rattle.text.specs.Held.{held}
+use Rattle.few.specs.Listed.{listed}
 use Rattle.job.specs.declared.Job.{Job}
 use Rattle.job.specs.Parsed.{parsed}
 
@@ -89,15 +90,15 @@ module _ (s : List ℕ) (h : length s ≤ most_bytes) where
           unfolding job_of
           job_is ts e n = rw (le-leb _ _ h, e1, e2, e3, e, eq-eqb _ _ n) refl
 
-          pub job_read : p4 ≡ length s → Ok (record { head = record { bits = b; input = w; by_width = r }; targets = v }) ≡ parsed (job_of s)
+          pub job_read : p4 ≡ length s → Ok (record { head = record { bits = b; input = w; by_width = r }; targets = listed (pos 0) 128 v.items }) ≡ parsed (job_of s)
           job_read n =
               let (ts, e, i) = held_some 128 _ e4 in
               let j = job_is ts e n in
-              ap (λ x. Ok (record { head = record { bits = b; input = w; by_width = r }; targets = x })) (i ∙ ap (λ xs. record { items = xs }) (take_all 128 ts (most_targets_lem s _ j))) ∙ ap parsed (sym j)
+              ap (λ xs. Ok (record { head = record { bits = b; input = w; by_width = r }; targets = listed (pos 0) 128 xs })) (ap (λ x. x.items) i ∙ take_all 128 ts (most_targets_lem s _ j)) ∙ ap parsed (sym j)
 
 -- ---- the job of an answer
 
-pub job_asked : (x : meaning.Job) {v : Job} → Ok v ≡ parsed x → (j : Asked) × (x ≡ asks j) × (v ≡ record { head = j.head; targets = record { items = j.targets } })
+pub job_asked : (x : meaning.Job) {v : Job} → Ok v ≡ parsed x → (j : Asked) × (x ≡ asks j) × (v ≡ record { head = j.head; targets = listed (pos 0) most_job_targets j.targets })
 job_asked (asks j) e = (j, refl, cc)
 job_asked (malformed line) e = let k : ◌≡◌ {A = ℕ} 0 1 = cc in absurd (omega arith)
 

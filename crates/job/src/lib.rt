@@ -8,13 +8,14 @@ ghost use Rattle.text.specs.Held.{held};
 ghost use Rattle.job.specs.Parsed.{parsed};
 
 use arrayvec::ArrayVec;
+use few::Few;
 use meaning::{BITS_FORM, BY_ROW, BY_WIDTH, Head, INPUT_FORM, JOB_BYTES, JOB_TARGETS, Refusal};
 
 // What a job asks for.
-#[derive(Clone, Drop)]
+#[derive(Clone, Copy)]
 pub struct Job {
     pub head: Head,
-    pub targets: ArrayVec<i32, JOB_TARGETS>,
+    pub targets: Few<i32, JOB_TARGETS>,
 }
 
 // The line of a form with one number: the number, and where the next line begins.
@@ -96,5 +97,8 @@ pub fn parse(s: &[u8]) -> Result<Job, Refusal>
         input,
         by_width,
     };
-    Ok(Job { head, targets })
+    Ok(Job {
+        head,
+        targets: Few::of(&targets, 0),
+    })
 }

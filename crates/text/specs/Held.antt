@@ -1,6 +1,8 @@
 -- A line's numbers as the code holds them: those that there is room for. Assumes nothing.
-use Rattle.std.specs.Prelude.{List, [], ◌++◌, ℕ, ℤ, take, Option, Some, None}
+use Rattle.std.specs.Prelude.{List, [], ◌++◌, ℕ, ℤ, pos, take, Option, Some, None}
 use Rattle.arrayvec.specs.ArrayVec.{ArrayVec}
+use Rattle.few.specs.declared.Few.{Few}
+use Rattle.few.specs.Listed.{listed}
 use Rattle.meaning.specs.Forms.{Line}
 
 -- what a line says behind numbers that are held
@@ -10,3 +12,8 @@ behind room before (Some (zs, p)) = Some (record { items = take room (before ++ 
 
 abbrev pub held : ℕ → Line (List ℤ) → Option (ArrayVec ℤ × ℕ)
 held room l = behind room [] l
+
+-- as they are handed back
+abbrev pub handed : (room : ℕ) → Option (ArrayVec ℤ × ℕ) → Option (Few ℤ room × ℕ)
+handed room None = None
+handed room (Some (v, p)) = Some (listed (pos 0) room v.items, p)

@@ -1,10 +1,11 @@
 // A line read by its form: a text in which each # stands for a number.
 ghost use Rattle.std.specs.Prelude.{◌≡◌};
 ghost use Rattle.meaning.specs.Forms.{taken as forms_taken, line_at};
-ghost use Rattle.text.specs.Held.{held};
+ghost use Rattle.text.specs.Held.{held, handed};
 
 use crate::{decimal, is};
 use arrayvec::ArrayVec;
+use few::Few;
 
 // How many of a line's numbers are kept.
 pub const MOST_NUMBERS: usize = 16;
@@ -20,8 +21,8 @@ pub fn taken(c: u8) -> usize
 }
 
 // The numbers of a form's line at a place, those that have room, and where the next line begins.
-pub fn line_at(s: &[u8], from: usize, form: &[u8]) -> Option<(ArrayVec<i32, MOST_NUMBERS>, usize)>
-    ensures { result ≡ held MOST_NUMBERS (line_at form.now s.now from) }
+pub fn line_at(s: &[u8], from: usize, form: &[u8]) -> Option<(Few<i32, MOST_NUMBERS>, usize)>
+    ensures { result ≡ handed MOST_NUMBERS (held MOST_NUMBERS (line_at form.now s.now from)) }
 {
     let mut numbers = ArrayVec::new();
     let mut at = from;
@@ -37,5 +38,5 @@ pub fn line_at(s: &[u8], from: usize, form: &[u8]) -> Option<(ArrayVec<i32, MOST
             return None;
         }
     }
-    Some((numbers, at))
+    Some((Few::of(&numbers, 0), at))
 }

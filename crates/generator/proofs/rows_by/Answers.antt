@@ -14,6 +14,7 @@ use Rattle.meaning.specs.Generator.{generated}
 use Rattle.laws.proofs.Refusals.Checked.{admitted_of}
 use Rattle.laws.proofs.Constants.Wanted.{wanted_length}
 use Rattle.laws.proofs.Generator.Generated.{few_rows_lem, drawn_accepts}
+use Rattle.few.proofs.Lent.{values_of}
 use Rattle.generator.specs.Rule.{AllServable, turned, Drawable}
 use Rattle.generator.proofs.Answers.{all_servable, told_rows, its_turns}
 use Rattle.generator.proofs.rows_by.Goals as goal
@@ -23,7 +24,7 @@ use Rattle.generator.proofs.rows_by.Goals.{After-deref}
 its_list : (c : After-deref) → c.deref.result.now ≡ wanted c.args.ts.now
 its_list c =
     let g = admitted_of c.args.b c.args.ts.now c.requires.1 in
-    c.deref.ensures.0 ∙ c.wanted_of.ensures ∙ ap wanted (take_all most_targets c.args.ts.now g.list.1)
+    values_of 0 c.deref.ensures c.wanted_of.ensures.value ∙ ap wanted (take_all most_targets c.args.ts.now g.list.1)
 
 its_rows : (c : After-deref) → let a = c.args in turned c.limit-limit.result c.deref.result.now ≡ generated a.b a.ts.now
 its_rows c = ap (λ (L : ℕ). turned L c.deref.result.now) c.limit-limit.ensures ∙ its_turns _ _ _ (its_list c)

@@ -55,5 +55,5 @@ returns-then-at-s c =
 pub returns : goal.returns
 returns c =
     let at = goal.at.returns c in
-    rw (to_z-of_z w32 c.in_ok-bits.bits (search rules), to_z-of_z w32 c.in_ok-input.input (search rules))
+    rw (to_z-of_z w32 c.in_ok-bits.bits (search rules), to_z-of_z w32 c.in_ok-input.input (search rules), c.of.ensures.value)
     (job_read c.args.s.now (omega arith) (line1 at.In_ok-bits) (line2 at.In_ok-input) (line3 at.In_ok-by_width) (sym c.targets_line.ensures ∙ c.in_ok-targets.ensures.ok_part) c.if-at-s.false)

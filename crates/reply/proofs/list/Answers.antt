@@ -1,5 +1,7 @@
 -- `list` meets its contract: a malformed text's refusal, or what its job gives. Assumes nothing.
 use mathlib.Core.Path.{sym, ap, ◌∙◌, subst}
+use lib.IntN.{pos}
+use Rattle.few.proofs.Lent.{values_of}
 use Rattle.meaning.specs.Job.{job_of}
 use Rattle.meaning.specs.Listing.{refused_line, reply_to}
 use Rattle.laws.proofs.Text.Asked.{targets_fit}
@@ -19,14 +21,14 @@ pub draw-requires : goal.draw-requires
 draw-requires c =
     let s = c.args.s.now in
     let (j, e, v) = job_asked (job_of s) c.in_ok-job.ensures in
-    let k = c.deref.ensures.0 ∙ ap (λ x. x.targets.items) v in
+    let k = values_of (pos 0) c.deref.ensures (ap (λ x. x.targets) v) in
     (c.requires, subst Narrow (sym k) (targets_fit s j e))
 
 pub returns : goal.returns
 returns c =
     let s = c.args.s.now in
     let (j, e, v) = job_asked (job_of s) c.in_ok-job.ensures in
-    let k = c.deref.ensures.0 ∙ ap (λ x. x.targets.items) v in
+    let k = values_of (pos 0) c.deref.ensures (ap (λ x. x.targets) v) in
     let i = ap (λ x. x.head) v in
     subst (λ t. Lists t c.draw.result c.args.out.now c.draw.new.out)
     ((λ n. reply_to (record { head = i n; targets = k n })) ∙ sym (asked_text s j e)) c.draw.ensures

@@ -7,13 +7,14 @@ use lib.Seq.{take_all}
 use Rattle.meaning.specs.Limits.{most_targets}
 use Rattle.meaning.specs.Constants.{wanted}
 use Rattle.laws.proofs.Constants.Wanted.{wanted_length}
+use Rattle.few.proofs.Lent.{values_of}
 use Rattle.listing.proofs.Laws.{sum_more, sum_end, wanted_positive}
 use Rattle.listing.proofs.head.csd_sum.Goals as goal
 use Rattle.listing.proofs.head.csd_sum.Goals.{After-deref-c-items}
 
 -- no target is left out
 its_list : (c : After-deref-c-items) → c.deref-c-items.result.now ≡ wanted c.args.ts.now
-its_list c = c.deref-c-items.ensures.0 ∙ c.wanted_of-wanted.ensures ∙ ap wanted (take_all most_targets c.args.ts.now c.requires)
+its_list c = values_of 0 c.deref-c-items.ensures c.wanted_of-wanted.ensures.value ∙ ap wanted (take_all most_targets c.args.ts.now c.requires)
 
 -- at most 16 constants
 few : (c : After-deref-c-items) → length c.deref-c-items.result.now ≤ 16

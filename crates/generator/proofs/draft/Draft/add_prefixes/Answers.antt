@@ -1,5 +1,7 @@
 -- `add_prefixes` meets its contract: the slice that is gone through holds the prefixes of c. Assumes nothing.
-use mathlib.Core.Path.{◌≡◌, ◌∙◌}
+use mathlib.Core.Path.{◌≡◌}
+use Rattle.few.proofs.Lent.{values_of}
+use Rattle.digits.specs.Held.{nothing}
 use Rattle.meaning.specs.Digits.{prefixes}
 use Rattle.laws.proofs.Lists.Index.{get_or_in}
 use Rattle.generator.proofs.DraftLaws.{part_start, part_open, part_odd, part_more, part_end}
@@ -7,7 +9,7 @@ use Rattle.generator.proofs.draft.Draft.add_prefixes.Goals as goal
 use Rattle.generator.proofs.draft.Draft.add_prefixes.Goals.{After-deref-p-items}
 
 its : (c : After-deref-p-items) → c.deref-p-items.result.now ≡ prefixes c.args.c
-its c = c.deref-p-items.ensures.0 ∙ c.prefixes_of-prefixes.ensures
+its c = values_of nothing c.deref-p-items.ensures c.prefixes_of-prefixes.ensures.value
 
 pub loop-p-init : goal.loop-p-init
 loop-p-init c = part_start c.requires.0

@@ -1,0 +1,8 @@
+-- `of` meets its contract, also where the front of the list is copied. Assumes nothing.
+use Rattle.std.proofs.Common.{rules}
+use lib.Seq.{take-length}
+use Rattle.std.proofs.lemmas.List.{drop-replicate}
+use Rattle.few.proofs.Few.of.Goals as goal
+
+pub returns-clause-value : goal.returns-clause-value
+returns-clause-value g c = search (rules, drop-replicate, take-length)
