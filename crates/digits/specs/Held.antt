@@ -1,11 +1,11 @@
--- The last prefix of a number; a form as two words with its count. Assumes nothing.
+-- The last prefix of a number, and none; a form as two words with its count. Assumes nothing.
 use Rattle.std.specs.Prelude.{cond, List, ℕ, ◌+◌, ◌-◌, ◌/◌, ◌%◌, ◌^◌, eqb}
 use Rattle.meaning.specs.declared.Prefix.{Prefix}
 use Rattle.meaning.specs.Basics.{zeros}
 use Rattle.meaning.specs.Digits.{Digit, nonzeros, plus_places, minus_places}
 use Rattle.digits.specs.declared.Places.{Places}
 
--- what stands behind a number's prefixes
+-- a place that holds no prefix
 abbrev pub nothing : Prefix
 nothing = record { before = 0; gap = 0; s = 0; value = 0 }
 

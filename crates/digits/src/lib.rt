@@ -4,7 +4,7 @@
 ghost use Rattle.std.specs.Prelude.{◌≡◌, ◌<◌, ◌≤◌, length};
 ghost use Rattle.meaning.specs.Digits.{above as digits_above, canonic, nonzeros, prefixes as digits_prefixes, form_of, minus_places};
 ghost use Rattle.meaning.specs.Calls.{WritesForm};
-ghost use Rattle.few.specs.Listed.{listed};
+ghost use Rattle.few.specs.Places.{in_places};
 ghost use Rattle.digits.specs.Held.{near as held_near, nothing, end_sign, last_prefix, places_held};
 
 use arrayvec::ArrayVec;
@@ -71,7 +71,7 @@ fn last_prefix(n: u32) -> Prefix
     }
 }
 
-// What stands behind a number's prefixes.
+// A place that holds no prefix.
 const NOTHING: Prefix = Prefix {
     before: 0,
     gap: 0,
@@ -82,7 +82,7 @@ const NOTHING: Prefix = Prefix {
 // The prefixes of a number, shortest first, each found from the one that it leaves. A number of 32 bits has sixteen at most.
 #[tactic(auto, using(crate::proofs::Laws::peel_start, crate::proofs::Laws::peel_room, crate::proofs::Laws::peel_falls, crate::proofs::Laws::peel_step, crate::proofs::Laws::peel_end))]
 pub fn prefixes_of(n: u32) -> Few<Prefix, 16>
-    ensures value { result ≡ listed nothing 16 (digits_prefixes n) }
+    ensures value { result ≡ in_places nothing 16 (digits_prefixes n) }
     ensures fits { result.count ≤ 16 }
 {
     let mut prefixes = ArrayVec::new();

@@ -1,8 +1,8 @@
-// A list of at most N values as plain data, copied as one: what a call hands back of the kit's ArrayVec, which is not `Copy`.
+// A list of at most N values as plain data, copied as one: for answers that a caller keeps, since the kit's ArrayVec is not `Copy`.
 #![tactic(auto)]
 
 ghost use Rattle.std.specs.Prelude.{⊤, ◌≡◌, ◌≤◌, take};
-ghost use Rattle.few.specs.Listed.{listed};
+ghost use Rattle.few.specs.Places.{in_places};
 
 use arrayvec::ArrayVec;
 use std::alloc::AllocError;
@@ -18,7 +18,7 @@ pub struct Few<T, const N: usize> {
 impl<T: Copy, const N: usize> Few<T, N> {
     // A list's values, and blanks behind them.
     pub fn of(list: &ArrayVec<T, N>, blank: T) -> Self
-        ensures value { result ≡ listed blank N list.now.items }
+        ensures value { result ≡ in_places blank N list.now.items }
         ensures fits { result.count ≤ N }
     {
         let mut values = [blank; N];

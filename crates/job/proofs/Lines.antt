@@ -14,7 +14,7 @@ use Rattle.meaning.specs.Job.{most_bytes, most_job_targets, Asked, asks, malform
 use Rattle.laws.proofs.Text.Asked.{most_targets_lem}
 use Rattle.laws.proofs.Text.Numerals.{no_some}
 use Rattle.text.specs.Held.{held}
-use Rattle.few.specs.Listed.{listed}
+use Rattle.few.specs.Places.{in_places}
 use Rattle.job.specs.declared.Job.{Job}
 use Rattle.job.specs.Parsed.{parsed}
 
@@ -90,15 +90,15 @@ module _ (s : List ℕ) (h : length s ≤ most_bytes) where
           unfolding job_of
           job_is ts e n = rw (le-leb _ _ h, e1, e2, e3, e, eq-eqb _ _ n) refl
 
-          pub job_read : p4 ≡ length s → Ok (record { head = record { bits = b; input = w; by_width = r }; targets = listed (pos 0) 128 v.items }) ≡ parsed (job_of s)
+          pub job_read : p4 ≡ length s → Ok (record { head = record { bits = b; input = w; by_width = r }; targets = in_places (pos 0) 128 v.items }) ≡ parsed (job_of s)
           job_read n =
               let (ts, e, i) = held_some 128 _ e4 in
               let j = job_is ts e n in
-              ap (λ xs. Ok (record { head = record { bits = b; input = w; by_width = r }; targets = listed (pos 0) 128 xs })) (ap (λ x. x.items) i ∙ take_all 128 ts (most_targets_lem s _ j)) ∙ ap parsed (sym j)
+              ap (λ xs. Ok (record { head = record { bits = b; input = w; by_width = r }; targets = in_places (pos 0) 128 xs })) (ap (λ x. x.items) i ∙ take_all 128 ts (most_targets_lem s _ j)) ∙ ap parsed (sym j)
 
 -- ---- the job of an answer
 
-pub job_asked : (x : meaning.Job) {v : Job} → Ok v ≡ parsed x → (j : Asked) × (x ≡ asks j) × (v ≡ record { head = j.head; targets = listed (pos 0) most_job_targets j.targets })
+pub job_asked : (x : meaning.Job) {v : Job} → Ok v ≡ parsed x → (j : Asked) × (x ≡ asks j) × (v ≡ record { head = j.head; targets = in_places (pos 0) most_job_targets j.targets })
 job_asked (asks j) e = (j, refl, cc)
 job_asked (malformed line) e = let k : ◌≡◌ {A = ℕ} 0 1 = cc in absurd (omega arith)
 

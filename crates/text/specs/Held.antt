@@ -2,7 +2,7 @@
 use Rattle.std.specs.Prelude.{List, [], ◌++◌, ℕ, ℤ, pos, take, Option, Some, None}
 use Rattle.arrayvec.specs.ArrayVec.{ArrayVec}
 use Rattle.few.specs.declared.Few.{Few}
-use Rattle.few.specs.Listed.{listed}
+use Rattle.few.specs.Places.{in_places}
 use Rattle.meaning.specs.Forms.{Line}
 
 -- what a line says behind numbers that are held
@@ -16,4 +16,4 @@ held room l = behind room [] l
 -- as they are handed back
 abbrev pub handed : (room : ℕ) → Option (ArrayVec ℤ × ℕ) → Option (Few ℤ room × ℕ)
 handed room None = None
-handed room (Some (v, p)) = Some (listed (pos 0) room v.items, p)
+handed room (Some (v, p)) = Some (in_places (pos 0) room v.items, p)

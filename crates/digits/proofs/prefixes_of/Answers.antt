@@ -1,6 +1,6 @@
 -- `digits::prefixes_of` meets its contract. The loop's invariant: the prefixes of what is left, and those found, the other way round, are all. Assumes nothing.
 use Rattle.std.proofs.Common.{arith, ap, ◌∙◌}
-use Rattle.few.specs.Listed.{listed}
+use Rattle.few.specs.Places.{in_places}
 use Rattle.digits.specs.Held.{nothing}
 use Rattle.digits.proofs.Laws.{peel_start, peel_room, peel_step, peel_end}
 use Rattle.digits.proofs.prefixes_of.Goals as goal
@@ -17,4 +17,4 @@ loop-left-preserved c = peel_step _ _ _ c.loop-left.invariant _ (omega arith) c.
 pub returns-clause-value : goal.returns-clause-value
 returns-clause-value c =
     let found = peel_end _ _ _ c.loop-left.invariant _ (omega arith) (rw c.deref_mut.ensures.value at c.reverse.ensures.after) in
-    c.of.ensures.value ∙ ap (listed nothing 16) found
+    c.of.ensures.value ∙ ap (in_places nothing 16) found

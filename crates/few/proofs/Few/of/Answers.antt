@@ -1,4 +1,4 @@
--- `of` meets its contract, also where the front of the list is copied. Assumes nothing.
+-- `of` meets its contract; `take-length` is for the control of the edit `blanks_for_values`. Assumes nothing.
 use Rattle.std.proofs.Common.{rules}
 use lib.Seq.{take-length}
 use Rattle.std.proofs.lemmas.List.{drop-replicate}

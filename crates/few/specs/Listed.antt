@@ -1,6 +1,0 @@
--- A list as plain data: its values, and blanks behind them. Assumes nothing.
-use Rattle.std.specs.Prelude.{ℕ, ◌-◌, List, ◌++◌, length, replicate}
-use Rattle.few.specs.declared.Few.{Few}
-
-abbrev pub listed : {T : Type 0} → T → (room : ℕ) → List T → Few T room
-listed blank room xs = record { values = xs ++ replicate (room - length xs) blank; count = length xs }
